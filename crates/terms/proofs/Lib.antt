@@ -1,3 +1,5 @@
 pub mod Truths
 pub mod Products
 pub mod Placing
+pub mod Holding
+pub mod Faults
