@@ -3,7 +3,16 @@ ghost use mathlib.Core.Path.{_≡_};
 ghost use Prim.Native.Nat.{_≤_};
 ghost use denote.Ref.{now};
 ghost use Rattle.boards.specs.Meaning.{Meaning, Put, Cleared, Next-some};
+
+pub mod dense;
+pub mod sparse;
+
+pub use dense::Dense;
+pub use dense::DenseBoard;
 use labels::Label;
+pub use sparse::Entry;
+pub use sparse::Sparse;
+pub use sparse::SparseBoard;
 use terms::Refusal;
 
 // Any store that shows what a board means.

@@ -23,11 +23,11 @@ module _ {X : Type 0} (old new : List X) (from to : ℕ) (so : Shifted old new f
     long = long ∙ so .long;
     below = λ j d h. getD-set-other new to j next d (omega arith) ∙ so .below j d h;
     moved = λ j d p q. ⊎-elim
-      (λ (e : j ≡ to).
+        (λ (e : j ≡ to).
         ap (λ n. getD (set new to next) n d) e ∙ getD-set-same new to next d (omega arith)
         ∙ getD-read new (to + 1) next lt is d ∙ so .rest (to + 1) d (omega arith) ∙ ap (λ n. getD old (n + 1) d) (sym e))
-      (λ (e : j ≡ to → ⊥). getD-set-other new to j next d e ∙ so .moved j d p (omega arith))
-      (cases-eq j to);
+        (λ (e : j ≡ to → ⊥). getD-set-other new to j next d e ∙ so .moved j d p (omega arith))
+        (cases-eq j to);
     rest = λ j d h. getD-set-other new to j next d (omega arith) ∙ so .rest j d (omega arith);
   }
 
@@ -39,9 +39,9 @@ module _ {X : Type 0} (old new : List X) (from to : ℕ) (so : Shifted old new f
       let part : length (take (count - 1) new) ≡ count - 1 = length-take-le (count - 1) new (omega (arith, same)) in
       let less = length-removed (take count old) from (omega (arith, whole)) in
       same-lists (take (count - 1) new) (removed (take count old) from) (omega (arith, less, part, whole))
-        (λ j d h.
-          let in-part : j < count - 1 = omega (arith, part) in
-          getD-take (count - 1) new j d in-part ∙ ⊎-elim
-            (λ (p : j < from). so .below j d p ∙ sym (getD-removed-below (take count old) from d j p (omega (arith, whole)) ∙ getD-take count old j d (omega arith)))
-            (λ (p : from ≤ j). so .moved j d p (omega arith) ∙ sym (getD-removed-above (take count old) from d j p (omega (arith, whole)) ∙ getD-take count old (j + 1) d (omega arith)))
-            (cases-lt j from))
+      (λ j d h.
+      let in-part : j < count - 1 = omega (arith, part) in
+      getD-take (count - 1) new j d in-part ∙ ⊎-elim
+      (λ (p : j < from). so .below j d p ∙ sym (getD-removed-below (take count old) from d j p (omega (arith, whole)) ∙ getD-take count old j d (omega arith)))
+      (λ (p : from ≤ j). so .moved j d p (omega arith) ∙ sym (getD-removed-above (take count old) from d j p (omega (arith, whole)) ∙ getD-take count old (j + 1) d (omega arith)))
+      (cases-lt j from))

@@ -5,14 +5,18 @@ ghost use lib.ListN.{length};
 ghost use denote.Ref.{name};
 ghost use Rattle.books.specs.Contents.{blank-book, Sized, Entered, Withdrawn};
 ghost use Rattle.books.specs.Held.{contents, Same-cells, Copied-down};
+ghost use Rattle.books.specs.Settling.{Settles-book, Labelled};
+use boards::Board;
 use labels::Label;
+use terms::Concept;
+use terms::Node;
 use terms::Refusal;
 use terms::Sentence;
 use terms::Sizes;
 
 pub mod book;
 
-use book::Book;
+pub use book::Book;
 
 impl<'a, L: Label> Book<'a, L> {
     // A blank book over the cells given.
@@ -91,6 +95,40 @@ impl<'a, L: Label> Book<'a, L> {
         if at < self.cells.len() {
             self.cells[at] = next;
         }
+    }
+
+    // Brings the board to the least labels that satisfy the rules of the sentences.
+    pub fn settle<B: Board<L>>(&mut self, board: &mut B) -> Result<(), Refusal>
+        requires { ⌜ B·Board .kept (now board) ⌝ }
+        ensures kept { λ _. ⌜ B·Board .kept (now (board .exit)) ⌝ }
+        ensures same_cells { λ _. ⌜ Same-cells (now (self .entry)) (now (self .exit)) ⌝ }
+        ensures settles { λ r. ⌜ Settles-book (L·Label .kind) (contents (now (self .entry))) (B·Board .meaning (now (board .entry))) r (contents (now (self .exit))) (B·Board .meaning (now (board .exit))) ⌝ }
+    {
+        match settling::settle(self.sizes, self.sentences(), board) {
+            Ok(()) => {
+                self.settled = true;
+                Ok(())
+            }
+            Err(Refusal::BoardFull) => {
+                self.settled = false;
+                Err(Refusal::BoardFull)
+            }
+            Err(refusal) => Err(refusal),
+        }
+    }
+
+    // The label of a node and a concept on the board given.
+    pub fn label<B: Board<L>>(&self, board: &B, node: Node, concept: Concept) -> Result<L, Refusal>
+        requires { ⌜ B·Board .kept (now board) ⌝ }
+        ensures { λ r. ⌜ Labelled (L·Label .kind) (contents (now (self .entry))) (B·Board .meaning (now (board .entry))) node concept r ⌝ }
+    {
+        if node.0 as usize >= self.sizes.nodes() || concept.0 >= self.sizes.concepts {
+            return Err(Refusal::OutOfRange);
+        }
+        if !self.settled {
+            return Err(Refusal::NotSettled);
+        }
+        Ok(board.read(self.sizes.member_place(node, concept)))
     }
 
     // The sizes.

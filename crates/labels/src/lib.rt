@@ -6,7 +6,7 @@ ghost use Rattle.labels.specs.KindLaws.{model-laws, grade-laws, whole-laws};
 
 pub mod grade;
 
-use grade::Grade;
+pub use grade::Grade;
 
 // A model label: view v is held when bit v is 1.
 #[derive(Clone, Copy)]

@@ -1,0 +1,7 @@
+pub mod Counts
+pub mod Puts
+pub mod Joins
+pub mod Cells
+pub mod Entries
+pub mod Stores
+pub mod Searches

@@ -1,0 +1,4 @@
+pub mod Keeps
+pub mod Meanings
+pub mod Steps
+pub mod Alike

@@ -1,0 +1,4 @@
+pub mod Account
+pub mod Law
+pub mod Step
+pub mod Determined
