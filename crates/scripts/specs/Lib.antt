@@ -1,1 +1,4 @@
 pub mod Lines
+pub mod Texts
+pub mod Reading
+pub mod Setups

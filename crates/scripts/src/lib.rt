@@ -7,6 +7,9 @@ ghost use Rattle.std.specs.Vec.{made};
 ghost use Rattle.std.specs.Written.{decimal};
 ghost use Rattle.runs.specs.Account.{said};
 ghost use Rattle.scripts.specs.Lines.{Reads-line, Same-call, answer-line, refused-line};
+ghost use Rattle.scripts.specs.Texts.{after-lines};
+ghost use Rattle.scripts.specs.Setups.{Reads-kind, Reads-memory, Reads-board, Reads-setup};
+ghost use Rattle.scripts.specs.Reading.{Reads-size, Reads-enter, Reads-withdraw, Reads-label};
 use labels::Label;
 use runs::Outcome;
 use runs::Request;
@@ -21,12 +24,20 @@ use terms::Sizes;
 pub mod words;
 
 use words::after_line;
-use words::find;
 use words::first_line;
 use words::numbers;
 
 // The most cells, entries or words of memory that a script may ask for.
 pub const MOST_MEMORY: u64 = 40_000_000;
+
+// The greatest number that fits the field of a form.
+const MOST_FORM: u64 = u8::MAX as u64;
+
+// The greatest number that fits the field of a name, or of how many names there are.
+const MOST_NAME: u64 = u16::MAX as u64;
+
+// The greatest number that fits the field of a sparse board's size.
+const MOST_SIZE: u64 = u32::MAX as u64;
 
 // Which kind of label a script's book is in.
 #[derive(Clone, Copy, PartialEq, Eq)]
@@ -53,7 +64,9 @@ pub struct Setup {
 }
 
 // The memory that the first four lines of a script ask for, or the number of the first that is missing or not as it should be.
-pub fn setup_of(script: &[u8]) -> Result<Setup, usize> {
+pub fn setup_of(script: &[u8]) -> Result<Setup, usize>
+    ensures { λ r. ⌜ Reads-setup (now (script .entry)) r ⌝ }
+{
     let second = after_line(script);
     let third = after_line(second);
     let fourth = after_line(third);
@@ -78,118 +91,116 @@ pub fn setup_of(script: &[u8]) -> Result<Setup, usize> {
 }
 
 // The lines of a script below the first four.
-pub fn calls_of(script: &[u8]) -> &[u8] {
+pub fn calls_of(script: &[u8]) -> &[u8]
+    ensures { λ r. ⌜ now r ≡ after-lines 4 (now (script .entry)) ⌝ }
+{
     after_line(after_line(after_line(after_line(script))))
 }
 
 // `kind models`, `kind grades` or `kind whole`.
-fn kind_line(line: &[u8]) -> Option<LabelKind> {
-    match line {
-        b"kind models" => Some(LabelKind::Models),
-        b"kind grades" => Some(LabelKind::Grades),
-        b"kind whole" => Some(LabelKind::Whole),
-        _ => None,
+fn kind_line(line: &[u8]) -> Option<LabelKind>
+    ensures { λ r. ⌜ Reads-kind (now (line .entry)) r ⌝ }
+{
+    if line == b"kind models" {
+        return Some(LabelKind::Models);
     }
+    if line == b"kind grades" {
+        return Some(LabelKind::Grades);
+    }
+    if line == b"kind whole" {
+        return Some(LabelKind::Whole);
+    }
+    None
 }
 
 // A word and the amount of memory after it.
-fn memory_line(line: &[u8], word: &[u8]) -> Option<usize> {
-    let end = find(line, b' ');
-    if &line[0..end] != word {
-        return None;
-    }
-    let amounts = numbers(&line[end..], 1)?;
-    memory(amounts[0])
-}
-
-// An amount of memory that may be asked for.
-fn memory(amount: u64) -> Option<usize> {
-    if amount > MOST_MEMORY {
-        return None;
-    }
-    Some(amount as usize)
+fn memory_line(line: &[u8], word: &[u8]) -> Option<usize>
+    ensures { λ r. ⌜ Reads-memory (now (word .entry)) (now (line .entry)) r ⌝ }
+{
+    let found = numbers(line, word, &[MOST_MEMORY])?;
+    Some(found[0] as usize)
 }
 
 // `board dense CELLS` or `board sparse SIZE ENTRIES`.
-fn board_line(line: &[u8]) -> Option<BoardPlan> {
-    let end = find(line, b' ');
-    if &line[0..end] != b"board" || end >= line.len() {
-        return None;
+fn board_line(line: &[u8]) -> Option<BoardPlan>
+    ensures { λ r. ⌜ Reads-board (now (line .entry)) r ⌝ }
+{
+    if let Some(found) = numbers(line, b"board dense", &[MOST_MEMORY]) {
+        return Some(BoardPlan::Dense(found[0] as usize));
     }
-    let plan = &line[end + 1..];
-    let named = find(plan, b' ');
-    let amounts = &plan[named..];
-    match &plan[0..named] {
-        b"dense" => {
-            let cells = numbers(amounts, 1)?;
-            Some(BoardPlan::Dense(memory(cells[0])?))
-        }
-        b"sparse" => {
-            let entries = numbers(amounts, 2)?;
-            let size = u32::try_from(entries[0]).ok()?;
-            Some(BoardPlan::Sparse(size, memory(entries[1])?))
-        }
-        _ => None,
-    }
+    let found = numbers(line, b"board sparse", &[MOST_SIZE, MOST_MEMORY])?;
+    Some(BoardPlan::Sparse(found[0] as u32, found[1] as usize))
 }
 
 // The call that a line is, with the number of a label in place of the label.
 pub fn request_of(line: &[u8]) -> Option<Request<u64>>
     ensures { λ r. ⌜ Reads-line (now (line .entry)) r ⌝ }
 {
-    let end = find(line, b' ');
-    let given = &line[end..];
-    match &line[0..end] {
-        b"size" => size_call(given),
-        b"enter" => enter_call(given),
-        b"withdraw" => withdraw_call(given),
-        b"settle" => settle_call(given),
-        b"label" => label_call(given),
-        _ => None,
+    if let Some(sizes) = size_line(line) {
+        return Some(Request::Size(sizes));
     }
+    if let Some(sentence) = enter_line(line) {
+        return Some(Request::Enter(sentence));
+    }
+    if let Some(number) = withdraw_line(line) {
+        return Some(Request::Withdraw(number));
+    }
+    if line == b"settle" {
+        return Some(Request::Settle);
+    }
+    let (node, concept) = label_line(line)?;
+    Some(Request::Label(node, concept))
 }
 
 // `size CONCEPTS ROLES UNITS`.
-fn size_call(given: &[u8]) -> Option<Request<u64>> {
-    let found = numbers(given, 3)?;
-    Some(Request::Size(Sizes {
-        concepts: u16::try_from(found[0]).ok()?,
-        roles: u16::try_from(found[1]).ok()?,
-        individuals: u16::try_from(found[2]).ok()?,
-    }))
+fn size_line(line: &[u8]) -> Option<Sizes>
+    ensures { λ r. ⌜ Reads-size (now (line .entry)) r ⌝ }
+{
+    let found = numbers(line, b"size", &[MOST_NAME; 3])?;
+    Some(Sizes {
+        concepts: found[0] as u16,
+        roles: found[1] as u16,
+        individuals: found[2] as u16,
+    })
 }
 
 // `enter FORM FIRST SECOND ROLE THIRD LABEL`.
-fn enter_call(given: &[u8]) -> Option<Request<u64>> {
-    let found = numbers(given, 6)?;
-    Some(Request::Enter(Sentence {
-        form: u8::try_from(found[0]).ok()?,
-        first: u16::try_from(found[1]).ok()?,
-        second: u16::try_from(found[2]).ok()?,
-        role: u16::try_from(found[3]).ok()?,
-        third: u16::try_from(found[4]).ok()?,
+fn enter_line(line: &[u8]) -> Option<Sentence<u64>>
+    ensures { λ r. ⌜ Reads-enter (now (line .entry)) r ⌝ }
+{
+    let limits = [
+        MOST_FORM,
+        MOST_NAME,
+        MOST_NAME,
+        MOST_NAME,
+        MOST_NAME,
+        u64::MAX,
+    ];
+    let found = numbers(line, b"enter", &limits)?;
+    Some(Sentence {
+        form: found[0] as u8,
+        first: found[1] as u16,
+        second: found[2] as u16,
+        role: found[3] as u16,
+        third: found[4] as u16,
         label: found[5],
-    }))
+    })
 }
 
 // `withdraw NUMBER`.
-fn withdraw_call(given: &[u8]) -> Option<Request<u64>> {
-    let found = numbers(given, 1)?;
-    Some(Request::Withdraw(found[0] as usize))
-}
-
-// `settle`.
-fn settle_call(given: &[u8]) -> Option<Request<u64>> {
-    numbers(given, 0)?;
-    Some(Request::Settle)
+fn withdraw_line(line: &[u8]) -> Option<usize>
+    ensures { λ r. ⌜ Reads-withdraw (now (line .entry)) r ⌝ }
+{
+    let found = numbers(line, b"withdraw", &[u64::MAX])?;
+    Some(found[0] as usize)
 }
 
 // `label NODE CONCEPT`.
-fn label_call(given: &[u8]) -> Option<Request<u64>> {
-    let found = numbers(given, 2)?;
-    let node = u16::try_from(found[0]).ok()?;
-    let concept = u16::try_from(found[1]).ok()?;
-    Some(Request::Label(Node(node), Concept(concept)))
+fn label_line(line: &[u8]) -> Option<(Node, Concept)>
+    ensures { λ r. ⌜ Reads-label (now (line .entry)) r ⌝ }
+{
+    let found = numbers(line, b"label", &[MOST_NAME; 2])?;
+    Some((Node(found[0] as u16), Concept(found[1] as u16)))
 }
 
 // The same call with the label that has the number; none where no label of the kind has it.

@@ -1,15 +1,18 @@
 // Lines, words and numbers of a text in bytes.
 ghost use mathlib.Core.Path.{_≡_};
-ghost use mathlib.Core.List.{_++_};
 ghost use Prim.Native.Nat.{_<_, _≤_};
-ghost use lib.ListN.{length};
+ghost use lib.ListN.{length, getD};
+ghost use Rattle.std.specs.Orderings.{Decides};
+ghost use Rattle.std.specs.Written.{decimal};
+ghost use Rattle.scripts.specs.Texts.{First-at, first-line, after-line, Line-and-rest};
+ghost use Rattle.scripts.specs.Reading.{Reads, Reads-first, Reads-numbers, Grows};
 
 // The most numbers that a line has.
-pub const MOST_NUMBERS: usize = 6;
+pub(crate) const MOST_NUMBERS: usize = 6;
 
 // Where a byte first stands in a text, or the text's end.
-pub fn find(text: &[u8], sought: u8) -> usize
-    ensures { λ r. ⌜ r ≤ length (now (text .entry)) ⌝ }
+pub(crate) fn find(text: &[u8], sought: u8) -> usize
+    ensures { λ r. ⌜ First-at sought (now (text .entry)) r ⌝ }
 {
     for (at, byte) in text.iter().enumerate() {
         if *byte == sought {
@@ -21,7 +24,8 @@ pub fn find(text: &[u8], sought: u8) -> usize
 
 // The text after its first line.
 pub fn after_line(text: &[u8]) -> &[u8]
-    ensures { λ r. ⌜ (0 < length (now (text .entry)) → length (now r) < length (now (text .entry))) ⌝ }
+    ensures rest { λ r. ⌜ now r ≡ after-line (now (text .entry)) ⌝ }
+    ensures shorter { λ r. ⌜ (0 < length (now (text .entry)) → length (now r) < length (now (text .entry))) ⌝ }
 {
     let end = find(text, b'\n');
     if end < text.len() {
@@ -32,40 +36,67 @@ pub fn after_line(text: &[u8]) -> &[u8]
 }
 
 // The first line of a text, without its line feed.
-pub fn first_line(text: &[u8]) -> &[u8] {
+pub fn first_line(text: &[u8]) -> &[u8]
+    ensures line { λ r. ⌜ now r ≡ first-line (now (text .entry)) ⌝ }
+    ensures whole { λ r. ⌜ Line-and-rest (now (text .entry)) (now r) (after-line (now (text .entry))) ⌝ }
+{
     let end = find(text, b'\n');
     &text[0..end]
 }
 
-// The number that decimal digits write: no sign, no leading zero, below 2 to the 64th.
-pub fn number(digits: &[u8]) -> Option<u64> {
-    if digits.is_empty() || (digits.len() > 1 && digits[0] == b'0') {
+// The numbers of a line that is a word and as many numbers as there are limits, a space before each and each up to its limit.
+pub(crate) fn numbers(line: &[u8], word: &[u8], limits: &[u64]) -> Option<[u64; MOST_NUMBERS]>
+    requires { ⌜ length (now limits) ≤ 6 ⌝ }
+    ensures { λ r. ⌜ Reads-numbers (now (word .entry)) (now (limits .entry)) (now (line .entry)) r ⌝ }
+{
+    let mut found = [0; MOST_NUMBERS];
+    let mut rest = line.strip_prefix(word)?;
+    for (at, most) in limits.iter().enumerate() {
+        let (number, after) = first_number(rest, *most)?;
+        found[at] = number;
+        rest = after;
+    }
+    if rest.is_empty() { Some(found) } else { None }
+}
+
+// The number after a space at the start of a text, up to a limit, and the rest of the text from the next space on.
+fn first_number(text: &[u8], most: u64) -> Option<(u64, &[u8])>
+    ensures { λ r. ⌜ Reads-first most (now (text .entry)) r ⌝ }
+{
+    let field = text.strip_prefix(b" ")?;
+    let end = find(field, b' ');
+    let value = number(&field[0..end], most)?;
+    Some((value, &field[end..]))
+}
+
+// The number that decimal digits write, with no sign and no leading zero, if it is not above the limit.
+fn number(digits: &[u8], most: u64) -> Option<u64>
+    ensures { λ r. ⌜ Reads (λ n. n ≤ most) decimal (now (digits .entry)) r ⌝ }
+{
+    if digits.is_empty() || has_leading_zero(digits) {
         return None;
     }
-    let mut value: u64 = 0;
+    let mut value = 0;
     for digit in digits {
-        if *digit < b'0' || *digit > b'9' {
-            return None;
-        }
-        value = value
-            .checked_mul(10)?
-            .checked_add(u64::from(*digit - b'0'))?;
+        value = grown(value, *digit, most)?;
     }
     Some(value)
 }
 
-// As many numbers as asked for, a space before each, and nothing after them.
-pub fn numbers(text: &[u8], count: usize) -> Option<[u64; MOST_NUMBERS]> {
-    let mut found = [0; MOST_NUMBERS];
-    let mut rest = text;
-    for at in 0..count {
-        if rest.is_empty() || rest[0] != b' ' || at >= MOST_NUMBERS {
-            return None;
-        }
-        let word = &rest[1..];
-        let end = find(word, b' ');
-        found[at] = number(&word[0..end])?;
-        rest = &word[end..];
+// Whether digits begin with a zero and go on after it.
+fn has_leading_zero(digits: &[u8]) -> bool
+    ensures { λ r. ⌜ Decides r ((getD (now (digits .entry)) 0 0 ≡ 48) × (1 < length (now (digits .entry)))) ⌝ }
+{
+    digits.len() > 1 && digits[0] == b'0'
+}
+
+// The value with one more digit after it, if that byte is a digit and the value stays within the limit.
+fn grown(value: u64, digit: u8, most: u64) -> Option<u64>
+    ensures { λ r. ⌜ Grows value digit most r ⌝ }
+{
+    if digit < b'0' || digit > b'9' {
+        return None;
     }
-    if rest.is_empty() { Some(found) } else { None }
+    let next = value.checked_mul(10)?.checked_add(u64::from(digit - b'0'))?;
+    if next <= most { Some(next) } else { None }
 }

@@ -23,7 +23,7 @@ use Rattle.settling.proofs.Turns.{grown-then, grown-as}
 
 module _ {L : Type 0} {k : Kind L} (laws : Lawful k) (z : Sizes) (ss : List (Sentence L)) (old : Meaning L) (none : (p : ℕ) → k .number (old .label p) ≡ 0) where
   -- a cleared board holds nothing that could fail to follow
-  pub none-justified : Justified k z ss old
+  none-justified : Justified k z ss old
   none-justified =
       record {
         derived = λ f v r l h.

@@ -71,7 +71,7 @@ module _ {L : Type 0} {k : Kind L} (laws : Lawful k) (old new : Meaning L) (at :
         (cases-eq p at)
 
     -- a view held now was held, or was put
-    pub joined-from :
+    joined-from :
         (p v : ℕ) → v < k .views → k .holds (new .label p) v ≡ true → (k .holds (old .label p) v ≡ true) ⊎ ((p ≡ at) × (k .holds t v ≡ true))
     joined-from p v l h =
         ⊎-elim

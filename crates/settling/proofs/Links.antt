@@ -32,7 +32,7 @@ module _ {L : Type 0} {k : Kind L} (laws : Lawful k) (z : Sizes) (s : Sentence L
   module _ {old : Meaning L} (mid : Meaning L) {grew : Bool} (from to : ℕ) (low : start ≤ from)
       (none : (p : ℕ) → from ≤ p → p < to → some-view k (mid .label p) ≡ false)
       (tried : Turn k z (s ∷ []) (λ label. (y : ℕ) → y < from - start → At-link k z s x y label) old mid grew) where
-    pub links-skip : Turn k z (s ∷ []) (λ label. (y : ℕ) → y < to - start → At-link k z s x y label) old mid grew
+    links-skip : Turn k z (s ∷ []) (λ label. (y : ℕ) → y < to - start → At-link k z s x y label) old mid grew
     links-skip =
         turn-seen (λ label. (y : ℕ) → from - start ≤ y → y < to - start → At-link k z s x y label)
         (λ label before rest y l. ⊎-elim (λ (q : y < from - start). before y q) (λ (q : from - start ≤ y). rest y q l) (cases-lt y (from - start)))

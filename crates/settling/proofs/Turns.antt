@@ -29,7 +29,7 @@ left-by r e h = let p = err-from-errBy r h in p .1 ∙ ap Err (p .2)
 
 module _ {L : Type 0} {k : Kind L} {z : Sizes} where
   -- nothing is done
-  pub grown-none : {used : List (Sentence L)} {old : Meaning L} → Grown k z used old old
+  grown-none : {used : List (Sentence L)} {old : Meaning L} → Grown k z used old old
   grown-none =
       record {
         size = refl;
@@ -74,7 +74,7 @@ module _ {L : Type 0} {k : Kind L} {z : Sizes} where
   refused-as more a = record { size = a .size; capacity = a .capacity; overfull = λ ss u. a .overfull ss (λ s i. u s (more s i)) }
 
   -- nothing is done, and what is asked is there
-  pub turn-none : {used : List (Sentence L)} {Asks : (Fact → L) → Type 0} {old : Meaning L} → Asks (label-on k z old) → Turn k z used Asks old old false
+  turn-none : {used : List (Sentence L)} {Asks : (Fact → L) → Type 0} {old : Meaning L} → Asks (label-on k z old) → Turn k z used Asks old old false
   turn-none a =
       record {
         grown = grown-none;

@@ -55,5 +55,5 @@ returns g c =
       kept = done .kept;
       filled = brought (g .L·Label .laws) (c .args .sizes) (c .args .sentences .now) (b .meaning (c .args .board .now)) (c .pre .none) (c .pre .ready)
           (b .meaning (c .tops .last .board)) (b .meaning (c .selves .last .board)) (b .meaning (c .loop .board)) (b .meaning (c .round .last .board))
-          (c .in-Continue-tops .ensures tt .seeds) (c .in-Continue-selves .ensures tt .seeds) (c .loop .inv .1) (c .if-branch .left) (done .applied);
+          (c .in-Continue-tops .ensures tt .seeds) (c .in-Continue-selves .ensures tt .seeds) (c .loop .inv .1) (cc) (done .applied);
     }

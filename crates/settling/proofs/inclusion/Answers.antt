@@ -7,5 +7,6 @@ returns g c =
     record {
       kept = c .gain .ensures .kept;
       applied = inclusion-turn (g .L·Label .laws) (c .args .sizes) (c .args .sentence) (b .meaning (c .args .board .now)) (b .meaning (c .gain .last .board))
-          (c .pre .ready) (c .args .node .0) (c .pre .node) (c .pre .form) (c .gain .result) (c .member-place-third .result) (c .both .result) (c .member-place-third .ensures) (cc) (c .gain .ensures .gained);
+          (c .pre .ready) (c .args .node .0) (c .pre .node) (c .pre .form)
+          (c .gain .result) (c .member-place-third .result) (c .both .result) (c .member-place-third .ensures) (cc) (c .gain .ensures .gained);
     }

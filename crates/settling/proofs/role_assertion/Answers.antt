@@ -7,5 +7,6 @@ returns g c =
     record {
       kept = c .gain .ensures .kept;
       applied = role-assertion-turn (g .L·Label .laws) (c .args .sizes) (c .args .sentence) (b .meaning (c .args .board .now)) (b .meaning (c .gain .last .board))
-          (c .pre .ready) (c .pre .form) (c .gain .result) (c .link-place-link .result) (c .args .sentence .label) (c .link-place-link .ensures) (cc) (c .gain .ensures .gained);
+          (c .pre .ready) (c .pre .form)
+          (c .gain .result) (c .link-place-link .result) (c .args .sentence .label) (c .link-place-link .ensures) (cc) (c .gain .ensures .gained);
     }
