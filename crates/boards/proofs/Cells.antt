@@ -8,8 +8,8 @@ use lib.Dec.{eqb}
 use lib.ListN.{length, getD, set}
 use Rattle.std.proofs.shelf.Lists.{length-set, getD-past, getD-set-same, getD-set-other}
 use Rattle.std.specs.declared.result.Result.the-variants.{Ok}
-use Rattle.labels.specs.Kind.{Kind, Lawful}
-use Rattle.boards.specs.Meaning.{some-view, Put}
+use Rattle.labels.specs.Kind.{Kind, Lawful, some-view}
+use Rattle.boards.specs.Meaning.{Put}
 use Rattle.boards.specs.Dense.{cells-meaning}
 use Rattle.boards.proofs.Puts.{put-joined, never-full}
 

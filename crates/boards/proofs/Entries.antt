@@ -10,8 +10,7 @@ use lib.ListN.{length, getD, set, take}
 use Rattle.std.proofs.shelf.Lists.{length-take-le, getD-default, getD-take, take-more, take-take}
 use Rattle.std.proofs.shelf.Tests.{cases-eq, cond-true, cond-false, eq-eqb, ne-eqb}
 use Rattle.std.specs.declared.option.Option.the-variants.{Some}
-use Rattle.labels.specs.Kind.{Kind}
-use Rattle.boards.specs.Meaning.{some-view}
+use Rattle.labels.specs.Kind.{Kind, some-view}
 use Rattle.boards.specs.declared.sparse.Entry.{Entry}
 use Rattle.boards.specs.Sparse.{entered, Absent, Apart, First-entry}
 

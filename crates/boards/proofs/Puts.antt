@@ -10,12 +10,12 @@ use Rattle.std.specs.declared.option.Option.{Option}
 use Rattle.std.specs.declared.option.Option.the-variants.{Some, None}
 use Rattle.std.specs.declared.result.Result.{Result}
 use Rattle.std.specs.declared.result.Result.the-variants.{Ok, Err}
-use Rattle.labels.specs.Kind.{Kind}
+use Rattle.labels.specs.Kind.{Kind, some-view}
 use Rattle.terms.specs.Refusals.{After, Accepted}
 use Rattle.terms.specs.declared.Refusal.{Refusal}
 use Rattle.terms.specs.declared.Refusal.the-variants.{OutOfRange, BoardFull}
-use Rattle.boards.specs.Meaning.{Meaning, some-view, occupied, no-room, Same, Joined, Put}
-use Rattle.boards.proofs.Counts.{count-below}
+use Rattle.boards.specs.Meaning.{Meaning, occupied, no-room, Same, Joined, Put}
+use Rattle.terms.proofs.Counting.{count-below}
 
 module _ {L : Type 0} (k : Kind L) (old : Meaning L) (place : ℕ) (t : L) (new : Meaning L) where
   -- what a put answers where its checks find this fault

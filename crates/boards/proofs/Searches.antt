@@ -8,10 +8,10 @@ use lib.Dec.{eqb}
 use lib.ListN.{length, getD, take}
 use Rattle.std.proofs.shelf.Lists.{take-more}
 use Rattle.std.specs.declared.option.Option.the-variants.{Some, None}
-use Rattle.labels.specs.Kind.{Kind, Lawful}
+use Rattle.labels.specs.Kind.{Kind, Lawful, some-view}
 use Rattle.boards.specs.declared.sparse.Entry.{Entry}
 use Rattle.boards.specs.declared.sparse.Sparse.{Sparse}
-use Rattle.boards.specs.Meaning.{some-view, Next-some}
+use Rattle.boards.specs.Meaning.{Next-some}
 use Rattle.boards.specs.Sparse.{used-entries, entered, sparse-meaning, Sparse-kept, Smallest}
 use Rattle.boards.proofs.Entries.{absent-push, absent-from-push, entered-absent, entered-some}
 

@@ -11,14 +11,14 @@ use Rattle.std.proofs.shelf.Lists.{length-set, length-take-le, getD-take, getD-
 use Rattle.std.proofs.shelf.Tests.{eq-eqb, ne-eqb}
 use Rattle.std.specs.declared.option.Option.the-variants.{Some}
 use Rattle.std.specs.declared.result.Result.the-variants.{Ok, Err}
-use Rattle.labels.specs.Kind.{Kind, Lawful}
+use Rattle.labels.specs.Kind.{Kind, Lawful, some-view}
 use Rattle.terms.specs.Lists.{count}
 use Rattle.terms.specs.declared.Refusal.the-variants.{BoardFull}
 use Rattle.boards.specs.declared.sparse.Entry.{Entry}
 use Rattle.boards.specs.declared.sparse.Sparse.{Sparse}
-use Rattle.boards.specs.Meaning.{Meaning, some-view, occupied, Put}
+use Rattle.boards.specs.Meaning.{Meaning, occupied, Put}
 use Rattle.boards.specs.Sparse.{used-entries, entered, sparse-meaning, Absent, Apart, Sparse-kept, First-entry, joined-entry}
-use Rattle.boards.proofs.Counts.{count-none, count-more}
+use Rattle.terms.proofs.Counting.{count-none, count-added}
 use Rattle.boards.proofs.Joins.{either-none, none-from-either}
 use Rattle.boards.proofs.Puts.{put-full, put-joined, room-held, room-for-none, room-left, no-room-left}
 use Rattle.boards.proofs.Entries.{entered-here, entered-beyond, entered-absent, entered-first, entered-push, entered-push-other, entered-set-other, apart-label, apart-set, apart-push}
@@ -36,7 +36,7 @@ module _ {L : Type 0} (k : Kind L) where
   occupied-entries laws size (e ∷ es) apart =
       let fails = ap (some-view k) (entered-absent k es (e .place) (apart .2)) ∙ none-seen (k .none) (laws .none-number) in
       let passes = ap (some-view k) (entered-here k e es (e .place) refl) ∙ some-seen (e .label) (apart .1) in
-      let more = count-more (λ p. some-view k (entered k es p)) (λ p. some-view k (entered k (e ∷ es) p)) size (e .place) (apart .0) fails passes (λ q other. ap (some-view k) (entered-beyond k e es q (λ r. other (sym r)))) in
+      let more = count-added (λ p. some-view k (entered k es p)) (λ p. some-view k (entered k (e ∷ es) p)) size (e .place) (apart .0) fails passes (λ q other. ap (some-view k) (entered-beyond k e es q (λ r. other (sym r)))) in
       omega (arith, more, occupied-entries laws size es (apart .3))
 
 module _ {L : Type 0} (k : Kind L) (laws : Lawful k) (b : Sparse L) (kept : Sparse-kept k b) (p : ℕ) (t : L) (inside : p < b .size) where

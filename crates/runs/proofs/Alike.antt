@@ -5,7 +5,6 @@ use mathlib.Core.List.{List, [], _∷_, _++_}
 use Prim.Native.Nat.{ℕ, zero, suc, _+_, _-_, _<_, _≤_}
 use native.Mathlib.Omega.{arith}
 use native.Mathlib.Decide.{decLt}
-use native.Mathlib.Nat.{add-zero, add-suc}
 use borrow.Author.Tests.{ltb-false}
 use lib.Dec.{ltb, leb}
 use lib.ListN.{length}
@@ -15,20 +14,20 @@ use Rattle.std.specs.declared.option.Option.the-variants.{Some, None}
 use Rattle.std.specs.declared.result.Result.{Result}
 use Rattle.std.specs.declared.result.Result.the-variants.{Ok, Err}
 use Rattle.std.specs.Results.{isOk}
-use Rattle.labels.specs.Kind.{Kind, Lawful}
+use Rattle.labels.specs.Kind.{Kind, Lawful, some-view}
 use Rattle.terms.specs.declared.Sizes.{Sizes}
 use Rattle.terms.specs.declared.Sentence.{Sentence}
 use Rattle.terms.specs.declared.Refusal.{Refusal}
 use Rattle.terms.specs.declared.Refusal.the-variants.{SizesOutsideLimits, MalformedSentence, BookFull, OutOfRange, NotSettled, TooFewPlaces}
-use Rattle.terms.specs.Lists.{count}
 use Rattle.terms.specs.Refusals.{first-fault, After, Accepted}
 use Rattle.terms.specs.Places.{nodes, places, place, member, outside-limits}
 use Rattle.terms.specs.Sentences.{well-formed, holdable}
 use Rattle.terms.proofs.Placing.{at-place, within-range}
+use Rattle.terms.proofs.Counting.{count-longer}
 use Rattle.theory.specs.Rules.{One-settled, Overfull}
 use Rattle.theory.proofs.Names.{sound-book}
 use Rattle.theory.proofs.Fullness.{settling}
-use Rattle.boards.specs.Meaning.{Meaning, Same, some-view}
+use Rattle.boards.specs.Meaning.{Meaning, Same}
 use Rattle.settling.specs.Settled.{label-on, Settled-board, Brought, Brought-or-short}
 use Rattle.books.specs.Contents.{Contents, unsettled, marked}
 use Rattle.books.specs.Settling.{Settles-book}
@@ -37,18 +36,6 @@ use Rattle.runs.specs.declared.Request.the-variants as request
 use Rattle.runs.specs.Account.{Account, account, Fresh, Answer, done, labelled}
 use Rattle.runs.specs.Law.{Gives, Chain}
 use Rattle.runs.specs.Determined.{Alike, Answers-alike, All-alike, Determined}
-
-count-from : (test : ℕ → Bool) (n more : ℕ) → count test n ≤ count test (n + more)
-count-from test n zero = let e = ap (count test) (add-zero n) in omega (arith, e)
-count-from test n (suc more) =
-    let e = ap (count test) (add-suc n more) in
-    let rest = count-from test n more in
-    omega (arith, e, rest)
-
-count-longer : (test : ℕ → Bool) (n m : ℕ) → n ≤ m → count test n ≤ count test m
-count-longer test n m le =
-    let e : n + (m - n) ≡ m = omega arith in
-    subst (λ (j : ℕ). count test n ≤ count test j) e (count-from test n (m - n))
 
 module _ {L : Type 0} (k : Kind L) (laws : Lawful k) where
   -- the answers and the books that a call leaves are one

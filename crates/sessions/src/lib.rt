@@ -1,4 +1,7 @@
 // Sessions: a whole script answered. The memory that it asks for is set aside, its calls are made, and each line gets its answer.
+ghost use Rattle.std.specs.Of.String.{string-bytes};
+ghost use Rattle.std.specs.Vec.{made};
+ghost use Rattle.sessions.specs.Answered.{Answered};
 use boards::Board;
 use boards::Dense;
 use boards::DenseBoard;
@@ -41,7 +44,9 @@ enum Reply {
 }
 
 // The answers to a script, a line each.
-pub fn answers(heap: Global, script: &[u8]) -> Result<String, AllocError> {
+pub fn answers(heap: Global, script: &[u8]) -> Result<String, AllocError>
+    ensures { λ r. ⌜ made r (λ s. Answered (now (script .entry)) (string-bytes s)) ⌝ }
+{
     let calls = calls_of(script);
     match setup_of(script) {
         Err(number) => {

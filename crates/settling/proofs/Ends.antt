@@ -6,18 +6,18 @@ use Prim.Native.Nat.{ℕ, _≤_}
 use native.Mathlib.Omega.{arith}
 use lib.Dec.{eqb}
 use Rattle.std.proofs.shelf.Tests.{eqb-false, eq-eqb, not-true, not-from-true}
-use Rattle.labels.specs.Kind.{Kind, Lawful}
+use Rattle.labels.specs.Kind.{Kind, Lawful, some-view}
 use Rattle.terms.specs.declared.Sizes.{Sizes}
 use Rattle.terms.specs.declared.Sentence.{Sentence}
 use Rattle.terms.specs.Lists.{_∈_}
 use Rattle.terms.specs.Places.{nodes, place, member}
 use Rattle.theory.specs.Rules.{Satisfies, Overfull}
 use Rattle.theory.proofs.Labels.{inside}
-use Rattle.boards.specs.Meaning.{Meaning, some-view, occupied, Cleared}
+use Rattle.boards.specs.Meaning.{Meaning, occupied, Cleared}
 use Rattle.settling.specs.Settled.{label-on, Brought}
 use Rattle.settling.specs.Turn.{Ready, Justified, Grown, Turn, Refused, Obeys, Obeys-all, Seeded}
-use Rattle.settling.proofs.Counting.{count-past}
-use Rattle.settling.proofs.Views.{not-none}
+use Rattle.terms.proofs.Counting.{count-past}
+use Rattle.labels.proofs.Views.{not-none}
 use Rattle.settling.proofs.Readiness.{ready-sound, all-in}
 use Rattle.settling.proofs.Turns.{grown-then, grown-as}
 

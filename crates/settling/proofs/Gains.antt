@@ -12,7 +12,7 @@ use Rattle.std.proofs.shelf.Tests.{both-ways, cases-bool, cases-eq, cases-lt, a
 use Rattle.std.specs.declared.option.Option.the-variants.{Some, None}
 use Rattle.std.specs.declared.result.Result.{Result}
 use Rattle.std.specs.declared.result.Result.the-variants.{Ok, Err}
-use Rattle.labels.specs.Kind.{Kind, Lawful, Covers}
+use Rattle.labels.specs.Kind.{Kind, Lawful, Covers, some-view}
 use Rattle.terms.specs.declared.Sizes.{Sizes}
 use Rattle.terms.specs.declared.Sentence.{Sentence}
 use Rattle.terms.specs.declared.Refusal.{Refusal}
@@ -22,10 +22,11 @@ use Rattle.terms.specs.Places.{places, place, Fact}
 use Rattle.terms.specs.Refusals.{After, Accepted}
 use Rattle.terms.proofs.Placing.{Within, within-range, range-within, place-below, place-same, at-place}
 use Rattle.theory.specs.Rules.{in-view, Derives, Settles-some, Overfull}
-use Rattle.boards.specs.Meaning.{Meaning, some-view, occupied, no-room, Same, Joined, Put}
+use Rattle.boards.specs.Meaning.{Meaning, occupied, no-room, Same, Joined, Put}
 use Rattle.settling.specs.Turn.{Justified, lacking}
-use Rattle.settling.proofs.Counting.{count-more, count-less, count-one-more, count-past}
-use Rattle.settling.proofs.Views.{same-covers, either-left, either-right, either-of, brings-view, view-of, not-none}
+use Rattle.terms.proofs.Counting.{count-more, count-less, count-one-more, count-past}
+use Rattle.labels.proofs.Views.{view-of, not-none}
+use Rattle.settling.proofs.Views.{same-covers, either-left, either-right, either-of, brings-view}
 
 module _ {L : Type 0} {k : Kind L} (laws : Lawful k) (old new : Meaning L) (at : ℕ) (t : L) where
   -- what a put does below the size, where the board has no room or has
@@ -95,7 +96,7 @@ module _ {L : Type 0} {k : Kind L} (laws : Lawful k) (old new : Meaning L) (at :
         count-less (λ i. not (k .holds (new .label (i / w)) (i % w))) (λ i. not (k .holds (old .label (i / w)) (i % w))) (places z * w) i
         (λ j l h. ⊎-elim
         (λ (o : k .holds (old .label (j / w)) (j % w) ≡ true).
-        absurd (both-ways (k .holds (new .label (j / w)) (j % w)) (not-true _ h) (joined-keeps (j / w) (j % w) (mod-lt j (laws .some-view)) o)))
+        absurd (both-ways (k .holds (new .label (j / w)) (j % w)) (not-true _ h) (joined-keeps (j / w) (j % w) (mod-lt j (laws .one-view)) o)))
         (not-from-false _) (cases-bool (k .holds (old .label (j / w)) (j % w))))
         inside
         (not-from-true _ (ap (λ n. k .holds (new .label n) (i % w)) quotient ∙ ap (k .holds (new .label at)) remainder ∙ joined-here (s .0) (s .1) (s .3)))

@@ -1,4 +1,3 @@
-pub mod Counting
 pub mod Views
 pub mod Gains
 pub mod Turns

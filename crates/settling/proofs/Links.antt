@@ -6,16 +6,16 @@ use mathlib.Core.List.{[], _∷_}
 use Prim.Native.Nat.{ℕ, _+_, _-_, _<_, _≤_}
 use native.Mathlib.Omega.{arith}
 use Rattle.std.proofs.shelf.Tests.{both-ways, cases-lt}
-use Rattle.labels.specs.Kind.{Kind, Lawful}
+use Rattle.labels.specs.Kind.{Kind, Lawful, some-view}
 use Rattle.terms.specs.declared.Sizes.{Sizes}
 use Rattle.terms.specs.declared.Sentence.{Sentence}
 use Rattle.terms.specs.Places.{nodes, place, Fact, member, link}
 use Rattle.theory.proofs.Names.{Sound-book}
 use Rattle.theory.proofs.Labels.{both-of}
-use Rattle.boards.specs.Meaning.{Meaning, some-view}
+use Rattle.boards.specs.Meaning.{Meaning}
 use Rattle.settling.specs.Settled.{label-on}
 use Rattle.settling.specs.Turn.{Turn, At-link, At-node}
-use Rattle.settling.proofs.Views.{not-none}
+use Rattle.labels.proofs.Views.{not-none}
 use Rattle.settling.proofs.Turns.{turn-seen, turn-next, turn-as}
 
 module _ {L : Type 0} {k : Kind L} (laws : Lawful k) (z : Sizes) (s : Sentence L) (sound : Sound-book z (s ∷ [])) (x start : ℕ)

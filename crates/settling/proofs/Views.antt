@@ -6,8 +6,7 @@ use Prim.Native.Nat.{ℕ, _<_}
 use lib.Dec.{eqb}
 use Rattle.std.proofs.shelf.Tests.{both-ways, and-parts, not-true, not-from-false, or-cases, or-left, or-right, eqb-false, ne-eqb}
 use Rattle.labels.specs.Kind.{Kind, Lawful, Covers}
-use Rattle.boards.specs.Meaning.{some-view}
-use Rattle.settling.proofs.Counting.{some-or-none}
+use Rattle.labels.proofs.Views.{some-or-none}
 
 -- a view that only the second holds, or none
 or-new : (s t : Bool) → (not s && t) ≡ false → (s || t) ≡ s
@@ -45,20 +44,3 @@ module _ {L : Type 0} {k : Kind L} (laws : Lawful k) where
       (laws .same-number (k .either a t) a
       (λ v l. laws .either-holds a t v l ∙ or-new (k .holds a v) (k .holds t v) (none v l)))))
       (some-or-none (λ v. not (k .holds a v) && k .holds t v) (k .views))
-
-  -- a label that is not none holds a view
-  pub view-of : (a : L) → some-view k a ≡ true → (v : ℕ) × (v < k .views) × (k .holds a v ≡ true)
-  view-of a h =
-      ⊎-elim (λ s. s)
-      (λ (none : (v : ℕ) → v < k .views → k .holds a v ≡ false).
-      absurd
-      (eqb-false (k .number a) 0 (not-true (eqb (k .number a) 0) h)
-      (laws .same-number a (k .none) (λ v l. none v l ∙ sym (laws .none-holds v l)) ∙ laws .none-number)))
-      (some-or-none (k .holds a) (k .views))
-
-  -- a label that holds a view is not none
-  pub not-none : (a : L) (v : ℕ) → v < k .views → k .holds a v ≡ true → some-view k a ≡ true
-  not-none a v l h =
-      not-from-false (eqb (k .number a) 0)
-      (ne-eqb (k .number a) 0
-      (λ e. both-ways (k .holds a v) (laws .same-views a (k .none) (e ∙ sym (laws .none-number)) v l ∙ laws .none-holds v l) h))

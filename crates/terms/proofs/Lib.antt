@@ -3,3 +3,4 @@ pub mod Products
 pub mod Placing
 pub mod Holding
 pub mod Faults
+pub mod Counting

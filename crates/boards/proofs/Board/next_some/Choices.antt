@@ -1,7 +1,7 @@
 use mathlib.Core.Path.{_≡_}
 use mathlib.Core.Bool.{false}
 use Prim.Native.Nat.{ℕ, _≤_, _<_}
-use Rattle.boards.specs.Meaning.{some-view}
+use Rattle.labels.specs.Kind.{some-view}
 use Rattle.boards.proofs.Board.next_some.Given as given
 
 abbrev pub Inv-loop-place : given.InvT-loop-place

@@ -2,7 +2,7 @@ use mathlib.Core.Path.{_≡_}
 use mathlib.Core.Bool.{false}
 use Prim.Native.Nat.{ℕ, _≤_, _<_}
 use lib.ListN.{getD}
-use Rattle.boards.specs.Meaning.{some-view}
+use Rattle.labels.specs.Kind.{some-view}
 use Rattle.boards.proofs.dense.next_cell.Given as given
 
 abbrev pub Inv-loop-place : given.InvT-loop-place
