@@ -1,14 +1,14 @@
 -- What the cells of a book keep to, through entering and withdrawing. Assumes nothing.
 use mathlib.Core.Path.{_≡_, refl, sym, ap, subst, _∙_}
-use mathlib.Core.Bool.{Bool, true, false, _&&_}
-use mathlib.Core.List.{List, [], _∷_, _++_}
+use mathlib.Core.Bool.{true, false, _&&_}
+use mathlib.Core.List.{List, [], _∷_}
 use Prim.Native.Nat.{ℕ, _+_, _-_, _<_, _≤_}
 use native.Mathlib.Omega.{arith}
 use lib.Dec.{T, leb}
 use lib.ListN.{length, take, set, getD}
 use lib.Seq.{take-set-lt, take-take}
 use borrow.Author.Tests.{leb-true, le-leb}
-use Rattle.std.proofs.shelf.Lists.{length-set, take-more-set, length-take-le, getD-take, getD-read}
+use Rattle.std.proofs.shelf.Lists.{length-set, take-more-set, length-take-le, getD-take}
 use Rattle.std.proofs.shelf.Tests.{and-from, and-parts}
 use Rattle.terms.specs.declared.Sizes.{Sizes}
 use Rattle.terms.specs.declared.Sentence.{Sentence}
@@ -16,7 +16,7 @@ use Rattle.terms.specs.Lists.{each}
 use Rattle.terms.specs.Places.{outside-limits}
 use Rattle.terms.specs.Sentences.{well-formed, holdable}
 use Rattle.terms.proofs.Truths.{say, said}
-use Rattle.terms.proofs.Holding.{each-append, each-take, each-set, each-at, Holdable, holdable-parts, holdable-from}
+use Rattle.terms.proofs.Holding.{each-append, each-take, each-set, each-at, holdable-parts, holdable-from}
 
 -- the first `count` cells are sentences of a book that can be
 abbrev Sound : {L : Type 0} → List (Sentence L) → ℕ → Sizes → Type 0

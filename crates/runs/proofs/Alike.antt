@@ -2,7 +2,7 @@
 use mathlib.Core.Path.{_≡_, refl, sym, subst, ap, _∙_}
 use mathlib.Core.Bool.{Bool, true, false, not, _||_}
 use mathlib.Core.List.{List, [], _∷_, _++_}
-use Prim.Native.Nat.{ℕ, zero, suc, _+_, _-_, _<_, _≤_}
+use Prim.Native.Nat.{ℕ, _+_, _-_, _<_, _≤_}
 use native.Mathlib.Omega.{arith}
 use native.Mathlib.Decide.{decLt}
 use borrow.Author.Tests.{ltb-false}
@@ -33,7 +33,7 @@ use Rattle.books.specs.Contents.{Contents, unsettled, marked}
 use Rattle.books.specs.Settling.{Settles-book}
 use Rattle.runs.specs.declared.Request.{Request}
 use Rattle.runs.specs.declared.Request.the-variants as request
-use Rattle.runs.specs.Account.{Account, account, Fresh, Answer, done, labelled}
+use Rattle.runs.specs.Account.{Account, account, Answer, labelled}
 use Rattle.runs.specs.Law.{Gives, Chain}
 use Rattle.runs.specs.Determined.{Alike, Answers-alike, All-alike, Determined}
 

@@ -18,7 +18,7 @@ use Rattle.books.specs.Contents.{Contents, blank-book, one-concept}
 use Rattle.runs.specs.declared.Request.{Request}
 use Rattle.runs.specs.declared.Outcome.{Outcome}
 use Rattle.runs.specs.Account.{Account, account, Answer, said}
-use Rattle.runs.specs.Law.{Memory, Run, Law, Gives, Claims, Chain, True-and-meant, True-account}
+use Rattle.runs.specs.Law.{Memory, Run, Law, Gives, Chain, True-and-meant, True-account}
 use Rattle.runs.specs.Step.{Step}
 use Rattle.runs.proofs.Keeps.{stays-true}
 use Rattle.runs.proofs.Meanings.{claims}

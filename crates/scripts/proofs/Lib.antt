@@ -1,4 +1,2 @@
-pub mod Digits
-pub mod Cuts
 pub mod Fields
 pub mod Setups

@@ -11,7 +11,7 @@ use Rattle.scripts.specs.declared.LabelKind.{LabelKind}
 use Rattle.scripts.specs.declared.BoardPlan.{BoardPlan}
 use Rattle.scripts.specs.declared.BoardPlan.the-variants as plan
 use Rattle.scripts.specs.declared.Setup.{Setup}
-use Rattle.scripts.specs.Texts.{line-at}
+use Rattle.lines.specs.Texts.{line-at}
 use Rattle.scripts.specs.Setups.{setup-line, Reads-kind, Reads-memory, Reads-board, Line-stands, Reads-setup}
 
 module _ (script : List ℕ) where

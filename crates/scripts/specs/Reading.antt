@@ -1,36 +1,18 @@
--- What it is to read a number, numbers or a call off a text: the value has that text, or none that fits has it. Assumes nothing.
+-- What it is to read numbers and a call off a line. Assumes nothing.
 use mathlib.Core.Path.{_≡_}
-use mathlib.Core.List.{List, _∷_, _++_}
-use Prim.Native.Nat.{ℕ, _+_, _-_, _*_, _<_, _≤_}
+use mathlib.Core.List.{List, _++_}
+use Prim.Native.Nat.{ℕ, _+_, _-_, _≤_}
 use lib.ListN.{length, take}
-use denote.Ref.{RefT}
-use Rattle.std.specs.Text.{In}
-use Rattle.std.specs.Written.{decimal}
 use Rattle.std.specs.shelf.Lists.{Each}
 use Rattle.std.specs.declared.option.Option.{Option}
 use Rattle.std.specs.declared.option.Option.the-variants.{Some, None}
+use Rattle.lines.specs.Numbers.{Reads}
 use Rattle.terms.specs.declared.Concept.{Concept}
 use Rattle.terms.specs.declared.Node.{Node}
 use Rattle.terms.specs.declared.Sentence.{Sentence}
 use Rattle.terms.specs.declared.Sizes.{Sizes}
 use Rattle.runs.specs.declared.Request.the-variants as request
 use Rattle.scripts.specs.Lines.{fields, call-line, Fields-fit}
-use Rattle.scripts.specs.Texts.{Set-off}
-
--- the value that has this text, or that none that fits has
-abbrev pub Reads : {X : Type 0} → (X → Type 0) → (X → List ℕ) → List ℕ → Option X → Type 0
-Reads Fits written text (Some x) = Fits x × (text ≡ written x)
-Reads {X} Fits written text None = (x : X) → Fits x → text ≡ written x → ⊥
-
--- the value with the digit after it, up to the limit; or the byte is no digit, or the value would be above the limit
-abbrev pub Grows : ℕ → ℕ → ℕ → Option ℕ → Type 0
-Grows value digit most (Some v) = In 48 57 digit × (v ≡ value * 10 + (digit - 48)) × (v ≤ most)
-Grows value digit most None = In 48 57 digit → most < value * 10 + (digit - 48)
-
--- the text is a space, a number up to the limit, and a rest that a space sets off; or it is no such text
-abbrev pub Reads-first : ℕ → List ℕ → Option (ℕ × RefT (List ℕ)) → Type 0
-Reads-first most text (Some p) = (p .0 ≤ most) × Set-off 32 (p .1 .now) × (text ≡ 32 ∷ (decimal (p .0) ++ p .1 .now))
-Reads-first most text None = (n : ℕ) (rest : List ℕ) → n ≤ most → Set-off 32 rest → text ≡ 32 ∷ (decimal n ++ rest) → ⊥
 
 -- the line is the word and one number for each limit, up to that limit: the first of those found; or it is no such line
 abbrev pub Reads-numbers : List ℕ → List ℕ → List ℕ → Option (List ℕ) → Type 0

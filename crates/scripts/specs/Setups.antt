@@ -12,8 +12,8 @@ use Rattle.scripts.specs.declared.BoardPlan.{BoardPlan}
 use Rattle.scripts.specs.declared.BoardPlan.the-variants as plan
 use Rattle.scripts.specs.declared.Setup.{Setup}
 use Rattle.scripts.specs.Lines.{fields}
-use Rattle.scripts.specs.Texts.{line-at}
-use Rattle.scripts.specs.Reading.{Reads}
+use Rattle.lines.specs.Texts.{line-at}
+use Rattle.lines.specs.Numbers.{Reads}
 
 -- an amount of memory that may be asked for
 abbrev pub Memory-fits : ℕ → Type 0

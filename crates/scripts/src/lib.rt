@@ -1,16 +1,21 @@
 // Scripts: a list of calls as text, one to a line below four lines that say what memory to set aside, and the lines that answer them.
 ghost use mathlib.Core.Path.{_≡_};
 ghost use mathlib.Core.List.{_++_};
+ghost use Prim.Native.Nat.{_≤_};
+ghost use lib.ListN.{length};
 ghost use lib.Chars.{codes};
 ghost use Rattle.std.specs.Of.String.{string-bytes};
 ghost use Rattle.std.specs.Vec.{made};
 ghost use Rattle.std.specs.Written.{decimal};
 ghost use Rattle.runs.specs.Account.{said};
 ghost use Rattle.scripts.specs.Lines.{Reads-line, Same-call, answer-line, refused-line};
-ghost use Rattle.scripts.specs.Texts.{after-lines};
+ghost use Rattle.lines.specs.Texts.{after-lines};
 ghost use Rattle.scripts.specs.Setups.{Reads-kind, Reads-memory, Reads-board, Reads-setup};
-ghost use Rattle.scripts.specs.Reading.{Reads-size, Reads-enter, Reads-withdraw, Reads-label};
+ghost use Rattle.scripts.specs.Reading.{Reads-numbers, Reads-size, Reads-enter, Reads-withdraw, Reads-label};
 use labels::Label;
+use lines::after_line;
+use lines::first_line;
+use lines::first_number;
 use runs::Outcome;
 use runs::Request;
 use std::alloc::AllocError;
@@ -21,11 +26,8 @@ use terms::Refusal;
 use terms::Sentence;
 use terms::Sizes;
 
-pub mod words;
-
-use words::after_line;
-use words::first_line;
-use words::numbers;
+// The most numbers that a line has.
+const MOST_NUMBERS: usize = 6;
 
 // The most cells, entries or words of memory that a script may ask for.
 pub const MOST_MEMORY: u64 = 40_000_000;
@@ -201,6 +203,21 @@ fn label_line(line: &[u8]) -> Option<(Node, Concept)>
 {
     let found = numbers(line, b"label", &[MOST_NAME; 2])?;
     Some((Node(found[0] as u16), Concept(found[1] as u16)))
+}
+
+// The numbers of a line that is a word and as many numbers as there are limits, a space before each and each up to its limit.
+fn numbers(line: &[u8], word: &[u8], limits: &[u64]) -> Option<[u64; MOST_NUMBERS]>
+    requires { ⌜ length (now limits) ≤ 6 ⌝ }
+    ensures { λ r. ⌜ Reads-numbers (now (word .entry)) (now (limits .entry)) (now (line .entry)) r ⌝ }
+{
+    let mut found = [0; MOST_NUMBERS];
+    let mut rest = line.strip_prefix(word)?;
+    for (at, most) in limits.iter().enumerate() {
+        let (number, after) = first_number(rest, *most)?;
+        found[at] = number;
+        rest = after;
+    }
+    if rest.is_empty() { Some(found) } else { None }
 }
 
 // The same call with the label that has the number; none where no label of the kind has it.

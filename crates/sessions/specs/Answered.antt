@@ -20,7 +20,7 @@ use Rattle.scripts.specs.declared.BoardPlan.{BoardPlan}
 use Rattle.scripts.specs.declared.BoardPlan.the-variants as plan
 use Rattle.scripts.specs.declared.Setup.{Setup}
 use Rattle.scripts.specs.Lines.{Reads-line, Same-call, answer-line, refused-line}
-use Rattle.scripts.specs.Texts.{Line-and-rest, after-lines}
+use Rattle.lines.specs.Texts.{Line-and-rest, after-lines}
 use Rattle.scripts.specs.Setups.{Reads-setup}
 
 -- the line that tells of a line that is no call
@@ -63,10 +63,11 @@ pub record Answers-in {L : Type 0} (k : Kind L) (setup : Setup) (lines told : Li
 -- the same in the kind of label that the script names
 abbrev pub Answers-setup : Setup → (lines told : List ℕ) → Type 0
 Answers-setup setup lines told =
-    elim (setup .kind)
-    [ kind.Models ↦ Answers-in model-kind setup lines told
-    | kind.Grades ↦ Answers-in grade-kind setup lines told
-    | kind.Whole ↦ Answers-in whole-kind setup lines told ]
+    elim (setup .kind) [
+      | kind.Models ↦ Answers-in model-kind setup lines told
+      | kind.Grades ↦ Answers-in grade-kind setup lines told
+      | kind.Whole ↦ Answers-in whole-kind setup lines told
+    ]
 
 -- a script is answered: the lines after its first four, or the number of the first of those four that is not as it should be
 abbrev pub Answered-by : (script : List ℕ) → Result Setup ℕ → (told : List ℕ) → Type 0

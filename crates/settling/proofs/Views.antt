@@ -3,8 +3,7 @@ use mathlib.Core.Path.{_≡_, refl, sym, _∙_}
 use mathlib.Core.Bool.{Bool, true, false, not, _&&_, _||_}
 use mathlib.Core.Logic.{_⊎_, ⊎-elim}
 use Prim.Native.Nat.{ℕ, _<_}
-use lib.Dec.{eqb}
-use Rattle.std.proofs.shelf.Tests.{both-ways, and-parts, not-true, not-from-false, or-cases, or-left, or-right, eqb-false, ne-eqb}
+use Rattle.std.proofs.shelf.Tests.{and-parts, not-true, or-cases, or-left, or-right}
 use Rattle.labels.specs.Kind.{Kind, Lawful, Covers}
 use Rattle.labels.proofs.Views.{some-or-none}
 

@@ -1,10 +1,9 @@
 -- Tests of every element of a list, and the parts of a book that can be. Assumes nothing.
 use mathlib.Core.Path.{_≡_, refl}
-use mathlib.Core.Bool.{Bool, true, false, not, _&&_}
+use mathlib.Core.Bool.{Bool, true, false, not}
 use mathlib.Core.List.{List, [], _∷_, _++_}
 use Prim.Native.Nat.{ℕ, zero, suc, _<_, _≤_}
 use native.Mathlib.Omega.{arith}
-use lib.Dec.{leb}
 use lib.ListN.{length, take, drop, set, getD}
 use borrow.Author.Tests.{leb-true, le-leb, not-true}
 use Rattle.std.proofs.shelf.Tests.{and-from, and-parts, not-from-false}

@@ -1,6 +1,6 @@
 -- Each fact in range has a place of its own below F, and each place below F is that of a fact in range. Assumes nothing.
-use mathlib.Core.Path.{_≡_, refl, sym, ap, ap₂, _∙_}
-use mathlib.Core.Bool.{Bool, true, false, _&&_, _||_}
+use mathlib.Core.Path.{_≡_, sym, ap, ap₂, _∙_}
+use mathlib.Core.Bool.{false}
 use Prim.Native.Nat.{ℕ, zero, suc, _+_, _-_, _*_, _/_, _%_, _<_, _≤_}
 use native.Mathlib.Omega.{arith}
 use native.Mathlib.Decide.{decLt}
@@ -11,7 +11,7 @@ use Rattle.std.proofs.shelf.Bits.{mul-add-lt, div-mul-add, mod-mul-add}
 use Rattle.std.proofs.shelf.Tests.{and-from, and-parts, or-parts}
 use Rattle.terms.proofs.Truths.{say, said}
 use Rattle.terms.specs.declared.Sizes.{Sizes}
-use Rattle.terms.specs.Places.{outside-limits, nodes, places, place, Fact, member, link, in-range, One-fact-each, Each-place-is-of-one-fact}
+use Rattle.terms.specs.Places.{outside-limits, nodes, places, place, Fact, member, link, in-range, Each-place-is-of-one-fact}
 
 -- a fact of nodes, concepts and roles that there are
 abbrev pub Within : Sizes → Fact → Type 0

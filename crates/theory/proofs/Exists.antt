@@ -1,21 +1,21 @@
 -- Every book has exact labels: the rules, applied as often as there are facts. Assumes nothing.
 use Prim.Native.Nat.{ℕ, zero, suc, _+_, _<_, _≤_}
 use mathlib.Core.Path.{_≡_, refl, sym, subst, ap, _∙_}
-use mathlib.Core.Bool.{Bool, true, false, cond, _&&_, _||_}
+use mathlib.Core.Bool.{Bool, true, false, cond, _&&_}
 use mathlib.Core.List.{List, [], _∷_, _++_, map}
 use mathlib.Core.Logic.{_↔_, _⊎_, inl, inr, ⊎-elim}
 use native.Mathlib.Omega.{arith}
 use native.Mathlib.Decide.{decLt}
-use lib.Dec.{T, eqb, ltb}
+use lib.Dec.{eqb, ltb}
 use lib.ListN.{length}
 use borrow.Author.Tests.{lt-ltb, ltb-true, eqb-true, eq-eqb, both-ways}
-use Rattle.std.specs.shelf.Lists.{kept-by, joined}
+use Rattle.std.specs.shelf.Lists.{joined}
 use Rattle.std.proofs.shelf.Tests.{and-parts, and-from, or-cases, or-left, or-right}
 use Rattle.labels.specs.Kind.{Kind, Lawful}
 use Rattle.terms.specs.declared.Sizes.{Sizes}
 use Rattle.terms.specs.declared.Sentence.{Sentence}
 use Rattle.terms.specs.Lists.{_∈_, counting}
-use Rattle.terms.specs.Places.{nodes, Fact, member, link, in-range}
+use Rattle.terms.specs.Places.{nodes, Fact, member, link}
 use Rattle.terms.proofs.Placing.{Within}
 use Rattle.theory.specs.Rules.{in-view, Derives, top, self, form-1, form-2, form-3, form-4, form-5, form-6, Exact, Least}
 use Rattle.theory.proofs.Names.{Sound-book, within}

@@ -1,24 +1,22 @@
 -- Overfull says just that more of the settled labels are not none than the capacity. Assumes nothing.
-use Prim.Native.Nat.{ℕ, zero, suc, _+_, _-_, _*_, _/_, _%_, _<_, _≤_}
-use mathlib.Core.Path.{_≡_, refl, sym, subst, ap, _∙_}
-use mathlib.Core.Bool.{Bool, true, false, cond, _&&_, not}
+use Prim.Native.Nat.{ℕ, _-_, _<_, _≤_}
+use mathlib.Core.Path.{_≡_, sym, subst}
+use mathlib.Core.Bool.{Bool, true, _&&_}
 use mathlib.Core.List.{List}
-use mathlib.Core.Logic.{_↔_, _⊎_, inl, inr, ⊎-elim}
+use mathlib.Core.Logic.{_↔_}
 use native.Mathlib.Omega.{arith}
-use native.Mathlib.Decide.{decLt}
-use native.Mathlib.Nat.{div-lt-iff-lt-mul, div-add-mod', mod-lt, mul-assoc, mul-add}
-use lib.Dec.{T, eqb, ltb}
-use borrow.Author.Tests.{lt-ltb, ltb-true, eqb-true, eqb-false, eq-eqb, ne-eqb, both-ways, not-true}
-use Rattle.std.proofs.shelf.Tests.{and-parts, and-from, cases-bool, not-from-false}
+use lib.Dec.{ltb}
+use borrow.Author.Tests.{lt-ltb, ltb-true}
+use Rattle.std.proofs.shelf.Tests.{and-parts, and-from}
 use Rattle.labels.specs.Kind.{Kind, Lawful, some-view}
 use Rattle.labels.proofs.Views.{view-of, not-none}
 use Rattle.terms.specs.declared.Sizes.{Sizes}
 use Rattle.terms.specs.declared.Sentence.{Sentence}
 use Rattle.terms.specs.Lists.{count}
-use Rattle.terms.specs.Places.{nodes, places, place, Fact, member, link, in-range}
+use Rattle.terms.specs.Places.{places, place}
 use Rattle.terms.proofs.Placing.{at-place, within-range}
 use Rattle.terms.proofs.Counting.{count-more}
-use Rattle.theory.specs.Rules.{in-view, Derives, Exact, Settles-some, Overfull, Settling}
+use Rattle.theory.specs.Rules.{Exact, Settles-some, Overfull, Settling}
 use Rattle.theory.proofs.Names.{Sound-book, sound-book}
 use Rattle.theory.proofs.Labels.{exact-least, least-alike}
 use Rattle.theory.proofs.Exists.{least-labels, least-are-exact}

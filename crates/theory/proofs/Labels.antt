@@ -1,21 +1,20 @@
 -- Exact labels are least, and least labels are all alike; the sentences of a view are a book that can be. Assumes nothing.
-use Prim.Native.Nat.{ℕ, suc, _+_, _<_, _≤_}
-use mathlib.Core.Path.{_≡_, refl, sym, subst, ap, _∙_}
+use Prim.Native.Nat.{ℕ, _<_, _≤_}
+use mathlib.Core.Path.{_≡_, refl, sym, _∙_}
 use mathlib.Core.Bool.{Bool, true, false, cond, _&&_, not}
 use mathlib.Core.List.{List, [], _∷_}
-use mathlib.Core.Logic.{_↔_, _⊎_, inl, inr, ⊎-elim}
 use native.Mathlib.Omega.{arith}
-use lib.Dec.{T, ltb, leb}
+use lib.Dec.{T}
 use lib.ListN.{length}
-use borrow.Author.Tests.{lt-ltb, ltb-true, leb-true, le-leb}
+use borrow.Author.Tests.{leb-true, le-leb}
 use Rattle.std.specs.shelf.Lists.{kept-by}
-use Rattle.std.proofs.shelf.Tests.{and-parts, and-from, cases-bool, both-ways}
-use Rattle.labels.specs.Kind.{Kind, Lawful, Covers}
+use Rattle.std.proofs.shelf.Tests.{and-parts, and-from}
+use Rattle.labels.specs.Kind.{Kind, Lawful}
 use Rattle.terms.specs.declared.Sizes.{Sizes}
 use Rattle.terms.specs.declared.Sentence.{Sentence}
 use Rattle.terms.specs.Lists.{_∈_, each}
 use Rattle.terms.specs.Sentences.{well-formed, holdable}
-use Rattle.terms.specs.Places.{outside-limits, nodes, Fact, member, link, in-range}
+use Rattle.terms.specs.Places.{outside-limits, Fact, member, link, in-range}
 use Rattle.terms.proofs.Truths.{say, said}
 use Rattle.terms.proofs.Placing.{Within, within-range}
 use Rattle.theory.specs.Rules.{in-view, Derives, top, self, form-1, form-2, form-3, form-4, form-5, form-6, Satisfies, Least, Exact}

@@ -1,11 +1,10 @@
 -- What a book that can be says of the names in its sentences, and of the facts that follow from them. Assumes nothing.
-use Prim.Native.Nat.{ℕ, _+_, _<_, _≤_}
+use Prim.Native.Nat.{ℕ, _<_}
 use mathlib.Core.Path.{_≡_, refl, sym, subst}
 use mathlib.Core.Bool.{Bool, true, false, _&&_, _||_, not}
 use mathlib.Core.List.{List, [], _∷_}
-use mathlib.Core.Logic.{_⊎_, inl, inr}
+use mathlib.Core.Logic.{inl, inr}
 use native.Mathlib.Omega.{arith}
-use native.Mathlib.Decide.{ℕ-discrete}
 use lib.Dec.{eqb, ltb, leb}
 use lib.ListN.{length}
 use borrow.Author.Tests.{ltb-true, eqb-false, not-true}
@@ -14,7 +13,7 @@ use Rattle.terms.specs.declared.Sizes.{Sizes}
 use Rattle.terms.specs.declared.Sentence.{Sentence}
 use Rattle.terms.specs.Lists.{_∈_, each}
 use Rattle.terms.specs.Sentences.{well-formed, holdable}
-use Rattle.terms.specs.Places.{outside-limits, nodes, Fact, member, link}
+use Rattle.terms.specs.Places.{outside-limits, Fact}
 use Rattle.terms.proofs.Placing.{Within}
 use Rattle.theory.specs.Rules.{Derives, top, self, form-1, form-2, form-3, form-4, form-5, form-6}
 

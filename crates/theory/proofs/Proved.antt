@@ -1,18 +1,17 @@
 -- The theory of one view. Assumes nothing.
-use Prim.Native.Nat.{ℕ, suc, _<_, _≤_}
-use mathlib.Core.Path.{_≡_, refl}
-use mathlib.Core.Bool.{Bool, true}
+use Prim.Native.Nat.{ℕ, _<_, _≤_}
+use mathlib.Core.Path.{refl}
+use mathlib.Core.Bool.{Bool}
 use mathlib.Core.List.{List, [], _∷_}
-use mathlib.Core.Logic.{_⊎_, inl, inr}
+use mathlib.Core.Logic.{inl}
 use native.Mathlib.Omega.{arith}
-use lib.Dec.{T}
 use lib.ListN.{length}
 use Rattle.terms.specs.declared.Sizes.{Sizes}
 use Rattle.terms.specs.declared.Sentence.{Sentence}
 use Rattle.terms.specs.Lists.{_∈_}
 use Rattle.terms.specs.Places.{nodes, Fact, member}
-use Rattle.theory.specs.World.{World, World-of, meant}
-use Rattle.theory.specs.Description.{Description, done, name, Fits, Says-yes, description}
+use Rattle.theory.specs.World.{meant}
+use Rattle.theory.specs.Description.{Description, done, name, Fits, description}
 use Rattle.theory.specs.Entailed.{table-world, Every-world-says-yes, Shows-derived, Canonical, Theory}
 use Rattle.theory.proofs.Names.{Sound-book, sound-book}
 use Rattle.theory.proofs.Sound.{world-model}

@@ -1,4 +1,3 @@
-use mathlib.Core.Path.{refl}
 use Rattle.labels.proofs.Grades.{same-grade}
 use Rattle.labels.proofs.GradeLabel.either.Needs as need
 

@@ -1,4 +1,3 @@
-use Prim.Native.Nat.{_≤_}
 use native.Mathlib.Omega.{arith}
 use Rattle.terms.proofs.Products.{row-few}
 use Rattle.terms.proofs.Sizes.link_place.Needs as need

@@ -1,4 +1,4 @@
-use Prim.Native.Nat.{_+_, _≤_}
+use Prim.Native.Nat.{_+_}
 use native.Mathlib.Omega.{arith}
 use Rattle.terms.proofs.Products.{places-few}
 use Rattle.terms.proofs.Sizes.word_count.Needs as need

@@ -1,4 +1,4 @@
-use mathlib.Core.Path.{refl, sym}
+use mathlib.Core.Path.{refl}
 use Rattle.books.proofs.Sound.{sound-entered}
 use Rattle.books.proofs.Accepted.{entered}
 use Rattle.books.proofs.book.Book.enter.Needs as need

@@ -3,8 +3,8 @@ use Prim.Native.Nat.{_+_}
 use native.Mathlib.Omega.{arith}
 use lib.ListN.{drop}
 use Rattle.std.proofs.shelf.Lists.{drop-all, length-drop, take-rest}
-use Rattle.scripts.proofs.Cuts.{rest-cut}
-use Rattle.scripts.proofs.words.after_line.Needs as need
+use Rattle.lines.proofs.Cuts.{rest-cut}
+use Rattle.lines.proofs.after_line.Needs as need
 
 pub returns-then-end-text : need.returns-then-end-text
 returns-then-end-text c =

@@ -1,7 +1,7 @@
 use mathlib.Core.Path.{_≡_}
 use lib.ListN.{length}
 use Rattle.scripts.proofs.Fields.{Found}
-use Rattle.scripts.proofs.words.numbers.Given as given
+use Rattle.scripts.proofs.numbers.Given as given
 
 abbrev pub Inv-loop-at : given.InvT-loop-at
 Inv-loop-at l = Found (l .word) (l .limits) (l .line) (l .at) (l .found) (l .rest) × (length (l .found) ≡ 6)

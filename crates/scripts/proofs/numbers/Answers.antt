@@ -6,7 +6,7 @@ use Rattle.std.proofs.shelf.Equals.{strip-prefix-is}
 use Rattle.std.proofs.shelf.Lists.{length-set, nil-from-length}
 use Rattle.std.proofs.shelf.Tests.{eqb-true, eqb-false}
 use Rattle.scripts.proofs.Fields.{found-none, found-more, found-all, stuck, too-long}
-use Rattle.scripts.proofs.words.numbers.Needs as need
+use Rattle.scripts.proofs.numbers.Needs as need
 
 pub returns-in-Break-rest : need.returns-in-Break-rest
 returns-in-Break-rest c =

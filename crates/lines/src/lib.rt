@@ -1,17 +1,14 @@
-// Lines, words and numbers of a text in bytes.
+// Lines: a text in bytes, line by line and number by number.
 ghost use mathlib.Core.Path.{_≡_};
 ghost use Prim.Native.Nat.{_<_, _≤_};
 ghost use lib.ListN.{length, getD};
 ghost use Rattle.std.specs.Orderings.{Decides};
 ghost use Rattle.std.specs.Written.{decimal};
-ghost use Rattle.scripts.specs.Texts.{First-at, first-line, after-line, Line-and-rest};
-ghost use Rattle.scripts.specs.Reading.{Reads, Reads-first, Reads-numbers, Grows};
-
-// The most numbers that a line has.
-pub(crate) const MOST_NUMBERS: usize = 6;
+ghost use Rattle.lines.specs.Texts.{First-at, first-line, after-line, Line-and-rest};
+ghost use Rattle.lines.specs.Numbers.{Reads, Reads-first, Grows};
 
 // Where a byte first stands in a text, or the text's end.
-pub(crate) fn find(text: &[u8], sought: u8) -> usize
+fn find(text: &[u8], sought: u8) -> usize
     ensures { λ r. ⌜ First-at sought (now (text .entry)) r ⌝ }
 {
     for (at, byte) in text.iter().enumerate() {
@@ -44,23 +41,8 @@ pub fn first_line(text: &[u8]) -> &[u8]
     &text[0..end]
 }
 
-// The numbers of a line that is a word and as many numbers as there are limits, a space before each and each up to its limit.
-pub(crate) fn numbers(line: &[u8], word: &[u8], limits: &[u64]) -> Option<[u64; MOST_NUMBERS]>
-    requires { ⌜ length (now limits) ≤ 6 ⌝ }
-    ensures { λ r. ⌜ Reads-numbers (now (word .entry)) (now (limits .entry)) (now (line .entry)) r ⌝ }
-{
-    let mut found = [0; MOST_NUMBERS];
-    let mut rest = line.strip_prefix(word)?;
-    for (at, most) in limits.iter().enumerate() {
-        let (number, after) = first_number(rest, *most)?;
-        found[at] = number;
-        rest = after;
-    }
-    if rest.is_empty() { Some(found) } else { None }
-}
-
 // The number after a space at the start of a text, up to a limit, and the rest of the text from the next space on.
-fn first_number(text: &[u8], most: u64) -> Option<(u64, &[u8])>
+pub fn first_number(text: &[u8], most: u64) -> Option<(u64, &[u8])>
     ensures { λ r. ⌜ Reads-first most (now (text .entry)) r ⌝ }
 {
     let field = text.strip_prefix(b" ")?;

@@ -9,7 +9,7 @@ use lib.ListN.{length, take, drop}
 use Rattle.std.proofs.shelf.Elements.{all-from-getD}
 use Rattle.std.proofs.shelf.Lists.{append-nil, drop-all, drop-drop, drop-more, getD-take, length-take-le, take-append-drop}
 use Rattle.std.proofs.shelf.Tests.{cases-lt, cond-true, cond-false, eq-eqb, ne-eqb}
-use Rattle.scripts.specs.Texts.{First-at, Without, Set-off, first-line, after-line, Line-and-rest}
+use Rattle.lines.specs.Texts.{First-at, Without, Set-off, first-line, after-line, Line-and-rest}
 
 module _ (b : ℕ) (text : List ℕ) (end : ℕ) (first : First-at b text end) where
   pub front : Without b (take end text)

@@ -4,9 +4,9 @@ use Prim.Native.Nat.{_<_, _≤_}
 use native.Mathlib.Omega.{arith}
 use lib.ListN.{length, getD}
 use Rattle.std.proofs.shelf.Tests.{both-ways, cases-lt, eqb-true, eqb-false}
-use Rattle.scripts.proofs.Digits.{proper, read-none, read-more, read-all, read-no-more}
-use Rattle.scripts.proofs.words.number.Needs as need
-use Rattle.scripts.proofs.words.number.Needs.{then-is-empty·by·then-is-empty, then-is-empty·by·else-is-empty·then-has-leading-zero}
+use Rattle.lines.proofs.Digits.{proper, read-none, read-more, read-all, read-no-more}
+use Rattle.lines.proofs.number.Needs as need
+use Rattle.lines.proofs.number.Needs.{then-is-empty·by·then-is-empty, then-is-empty·by·else-is-empty·then-has-leading-zero}
 
 pub loop-digit-holds : need.loop-digit-holds
 loop-digit-holds c = read-none (c .args .digits .now) (c .args .most)

@@ -6,9 +6,9 @@ use lib.ListN.{take, drop}
 use Rattle.std.specs.declared.option.Option.the-variants.{Some, None}
 use Rattle.std.proofs.shelf.Equals.{strip-prefix-is}
 use Rattle.std.proofs.shelf.Lists.{append-cancel-left, take-append-drop, take-rest}
-use Rattle.scripts.proofs.Cuts.{back}
-use Rattle.scripts.proofs.Fields.{cut-number}
-use Rattle.scripts.proofs.words.first_number.Needs as need
+use Rattle.lines.proofs.Cuts.{back}
+use Rattle.lines.proofs.Numbers.{cut-number}
+use Rattle.lines.proofs.first_number.Needs as need
 
 pub returns-in-Break-field : need.returns-in-Break-field
 returns-in-Break-field c =

@@ -2,9 +2,9 @@ use mathlib.Core.Path.{_≡_, sym, ap, _∙_, subst}
 use Prim.Native.Nat.{_-_}
 use native.Mathlib.Omega.{arith}
 use lib.ListN.{take}
-use Rattle.scripts.specs.Texts.{after-line, Line-and-rest}
-use Rattle.scripts.proofs.Cuts.{line-cut, whole-cut}
-use Rattle.scripts.proofs.words.first_line.Needs as need
+use Rattle.lines.specs.Texts.{after-line, Line-and-rest}
+use Rattle.lines.proofs.Cuts.{line-cut, whole-cut}
+use Rattle.lines.proofs.first_line.Needs as need
 
 pub returns : need.returns
 returns c =
