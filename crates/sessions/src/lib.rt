@@ -1,7 +1,14 @@
 // Sessions: a whole script answered. The memory that it asks for is set aside, its calls are made, and each line gets its answer.
+ghost use mathlib.Core.Path.{_≡_};
+ghost use mathlib.Core.List.{[], map};
+ghost use lib.ListN.{length, replicate};
 ghost use Rattle.std.specs.Of.String.{string-bytes};
+ghost use Rattle.std.specs.Of.Vec.{vec-items, vec-len};
 ghost use Rattle.std.specs.Vec.{made};
-ghost use Rattle.sessions.specs.Answered.{Answered};
+ghost use Rattle.runs.specs.Account.{said};
+ghost use Rattle.runs.specs.Law.{memory};
+ghost use Rattle.sessions.specs.Answered.{Answered, Answers-in};
+ghost use Rattle.sessions.specs.Noted.{Notes, Noted, calls-among, told-lines, Answers-from};
 use boards::Board;
 use boards::Dense;
 use boards::DenseBoard;
@@ -63,7 +70,9 @@ pub fn answers(heap: Global, script: &[u8]) -> Result<String, AllocError>
 }
 
 // Sets the memory aside that a script asks for, and makes its calls there.
-fn on_board<L: Label>(heap: Global, setup: Setup, calls: &[u8]) -> Result<String, AllocError> {
+fn on_board<L: Label>(heap: Global, setup: Setup, calls: &[u8]) -> Result<String, AllocError>
+    ensures { λ r. ⌜ made r (λ s. Answers-in (L·Label .kind) setup (now (calls .entry)) (string-bytes s)) ⌝ }
+{
     let blank = Sentence {
         form: 0,
         first: 0,
@@ -77,7 +86,7 @@ fn on_board<L: Label>(heap: Global, setup: Setup, calls: &[u8]) -> Result<String
         BoardPlan::Dense(count) => {
             let mut labels = filled(heap, L::none(), count)?;
             let mut board = Dense::new(&mut labels);
-            made(heap, &mut cells, &mut board, calls)
+            answered(heap, &mut cells, &mut board, calls)
         }
         BoardPlan::Sparse(size, count) => {
             let none = Entry {
@@ -86,13 +95,15 @@ fn on_board<L: Label>(heap: Global, setup: Setup, calls: &[u8]) -> Result<String
             };
             let mut entries = filled(heap, none, count)?;
             let mut board = Sparse::new(&mut entries, size);
-            made(heap, &mut cells, &mut board, calls)
+            answered(heap, &mut cells, &mut board, calls)
         }
     }
 }
 
 // Memory of so many items.
-fn filled<T: Copy>(heap: Global, item: T, count: usize) -> Result<Vec<T>, AllocError> {
+fn filled<T: Copy>(heap: Global, item: T, count: usize) -> Result<Vec<T>, AllocError>
+    ensures { λ r. ⌜ made r (λ v. (vec-items v ≡ replicate count item) × (vec-len v ≡ count)) ⌝ }
+{
     let mut items = Vec::with_capacity(heap, count)?;
     for _ in 0..count {
         items.push(item)?;
@@ -101,26 +112,40 @@ fn filled<T: Copy>(heap: Global, item: T, count: usize) -> Result<Vec<T>, AllocE
 }
 
 // Makes the calls of the lines, and answers each line.
-fn made<L: Label, B: Board<L>>(
+fn answered<L: Label, B: Board<L>>(
     heap: Global,
     cells: &mut [Sentence<L>],
     board: &mut B,
     lines: &[u8],
 ) -> Result<String, AllocError>
     requires { ⌜ B·Board .kept (now board) ⌝ }
+    ensures { λ r. ⌜ made r (λ s. Answers-from (L·Label .kind) (memory (now (cells .entry)) (B·Board .meaning (now (board .entry)))) (now (lines .entry)) (string-bytes s)) ⌝ }
+{
+    let mut requests = Vec::new(heap);
+    let replies = take_lines(heap, lines, &mut requests)?;
+    let log = perform(cells, board, &requests, heap)?;
+    told(heap, &replies, &log)
+}
+
+// Notes the calls of the lines, the first of which is line 5 of the script, and says how each line is answered.
+fn take_lines<L: Label>(
+    heap: Global,
+    lines: &[u8],
+    requests: &mut Vec<Request<L>>,
+) -> Result<Vec<Reply>, AllocError>
+    requires { ⌜ vec-items (now requests) ≡ [] ⌝ }
+    ensures { λ r. ⌜ made r (λ v. Noted (L·Label .kind) 5 (now (lines .entry)) (vec-items v) (vec-items (now (requests .exit)))) ⌝ }
 {
     let mut replies = Vec::new(heap);
-    let mut requests = Vec::new(heap);
     let mut rest = lines;
     let mut number = 5;
     while !rest.is_empty() {
-        let reply = take_line(first_line(rest), number, &mut requests)?;
+        let reply = take_line(first_line(rest), number, requests)?;
         replies.push(reply)?;
         rest = after_line(rest);
-        number = number.saturating_add(1);
+        number += 1;
     }
-    let log = perform(cells, board, &requests, heap)?;
-    told(heap, &replies, &log)
+    Ok(replies)
 }
 
 // Notes the call of a line, if it is one, and says how the line is answered.
@@ -128,7 +153,9 @@ fn take_line<L: Label>(
     line: &[u8],
     number: usize,
     requests: &mut Vec<Request<L>>,
-) -> Result<Reply, AllocError> {
+) -> Result<Reply, AllocError>
+    ensures { λ r. ⌜ made r (λ reply. Notes (L·Label .kind) number (now (line .entry)) (vec-items (now (requests .entry))) reply (vec-items (now (requests .exit)))) ⌝ }
+{
     let Some(plain) = request_of(line) else {
         return Ok(Reply::BadLine(number));
     };
@@ -140,19 +167,16 @@ fn take_line<L: Label>(
 }
 
 // The answers, a line each, in the order of the lines.
-fn told<L: Label>(
-    heap: Global,
-    replies: &[Reply],
-    log: &[Outcome<L>],
-) -> Result<String, AllocError> {
+fn told<L: Label>(heap: Global, replies: &[Reply], log: &[Outcome<L>]) -> Result<String, AllocError>
+    requires { ⌜ calls-among (now replies) ≡ length (now log) ⌝ }
+    ensures { λ r. ⌜ made r (λ s. string-bytes s ≡ told-lines (L·Label .kind) (now (replies .entry)) (map said (now (log .entry)))) ⌝ }
+{
     let mut text = String::new(heap);
     let mut next = 0;
     for reply in replies {
         let line = match reply {
             Reply::Made => {
-                let Some(outcome) = log.get(next) else {
-                    return Ok(text);
-                };
+                let outcome = &log[next];
                 next += 1;
                 answer(heap, outcome)?
             }
