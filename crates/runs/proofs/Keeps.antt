@@ -5,6 +5,7 @@ use mathlib.Core.List.{List, [], _∷_, _++_}
 use Prim.Native.Nat.{ℕ, suc, _+_}
 use native.Mathlib.Omega.{arith}
 use borrow.Author.Tests.{leb-false, not-false, clash}
+use denote.Ref.{now}
 use lib.Dec.{ltb, leb}
 use lib.ListN.{length, take, drop, length-append}
 use Rattle.std.specs.shelf.Lists.{removed}
@@ -27,8 +28,10 @@ use Rattle.terms.proofs.Faults.{no-fault}
 use Rattle.terms.proofs.Holding.{each-append, each-take, each-drop, holdable-parts, holdable-from}
 use Rattle.boards.specs.Meaning.{Meaning}
 use Rattle.settling.specs.Settled.{Brought-or-short}
-use Rattle.books.specs.Contents.{Contents, unsettled, marked}
+use Rattle.books.specs.Contents.{Contents, unsettled, marked, one-concept}
 use Rattle.books.specs.Settling.{Settles-book}
+use Rattle.texts.specs.declared.Misread.{Misread}
+use Rattle.texts.specs.Texts.{Reads}
 use Rattle.runs.specs.declared.Request.{Request}
 use Rattle.runs.specs.declared.Request.the-variants as request
 use Rattle.runs.specs.Account.{Account, account, Answer}
@@ -65,6 +68,15 @@ module _ {L : Type 0} (k : Kind L) where
           subst (λ (b : Contents L). True-account k (account b m)) (sym (h .0)) (record { book = t .book; board = λ e. h .1 .board })
       go false (Err e) h =
           subst (λ (b : Contents L). True-account k (account b m)) (sym (h .0)) (record { book = t .book; board = λ e. absurd (clash e) })
+
+  -- what reading leaves can be, and is not settled
+  read-true :
+      (a : Account L) (c : Contents L) (text : List ℕ) (r : Result (Unit {0}) Misread) → Reads k (a .book) text r c → True-account k a → True-account k (account c (a .board))
+  read-true a c text (Ok u) h t =
+      subst (λ (b : Contents L). True-account k (account b (a .board))) (sym (h .book)) (record { book = h .can-be; board = λ e. absurd (clash e) })
+  read-true a c text (Err bad) h t =
+      subst (λ (b : Contents L). True-account k (account b (a .board))) (sym (h .book))
+      (record { book = holdable-from {L = L} (a .book .cells) one-concept [] (record { limits = refl; formed = refl; few = omega arith }); board = λ e. absurd (clash e) })
 
   -- whatever the call, the account stays true
   pub stays-true : (a : Account L) (q : Request L) (o : Answer L) (b : Account L) → Gives k a q o b → True-account k a → True-account k b
@@ -103,5 +115,8 @@ module _ {L : Type 0} (k : Kind L) where
         formed = each-append (well-formed z) (take i ss) (drop (suc i) ss) (each-take (well-formed z) i ss (p .formed)) (each-drop (well-formed z) (suc i) ss (p .formed));
         few = omega (arith, few, length-removed ss i lt);
       })) (h .0) (h .3) t)
+  stays-true a (request.Read text) o b h t = same-true (h .4) (read-true a (h .1) (now text) (h .0) (h .3) t)
+  stays-true a (request.Write room) o b h t = same-true (h .4) t
   stays-true a request.Settle o b h t = same-true (h .5) (settles-true a (h .1) (h .2) (h .0) (h .4) t)
   stays-true a (request.Label x B) o b h t = same-true (h .3) t
+  stays-true a (request.List room) o b h t = same-true (h .4) t

@@ -1,4 +1,5 @@
 pub mod Keeps
 pub mod Meanings
 pub mod Steps
+pub mod Relabelled
 pub mod Alike

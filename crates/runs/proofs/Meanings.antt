@@ -58,7 +58,10 @@ module _ {L : Type 0} (k : Kind L) (laws : Lawful k) where
   claims a (request.Size z) o b h t = tt
   claims a (request.Enter s) o b h t = tt
   claims a (request.Withdraw i) o b h t = tt
+  claims a (request.Read text) o b h t = tt
+  claims a (request.Write room) o b h t = tt
   claims a request.Settle o b h t = tt
+  claims a (request.List room) o b h t = tt
   claims a (request.Label x B) o b h t = λ l e. label-means a x B (h .0) l t (h .2) (same (h .0) l (sym (h .1) ∙ e))
     where
       same : (r : Result L Refusal) (l : L) → labelled r ≡ labelled (Ok l) → r ≡ Ok l

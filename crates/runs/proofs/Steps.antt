@@ -95,6 +95,9 @@ module _ {L : Type 0} (k : Kind L) where
   law-err before after calls (Ok v) e n answers h = absurd (clash e)
   law-err before after calls (Err x) e n answers h = (n, answers, h)
 
+  pub reached-at : {start : Account L} {qs : List (Request L)} {os : List (Answer L)} {here here′ : Account L} → here′ ≡ here → Reached start qs os here → Reached start qs os here′
+  reached-at {start} {qs} {os} {here} {here′} e r = subst (λ (a : Account L). Reached start qs os a) (sym e) r
+
   pub reached-all : {start : Account L} {qs qs′ : List (Request L)} {os : List (Answer L)} {here : Account L} → qs ≡ qs′ → Reached start qs os here → Reached start qs′ os here
   reached-all {start} {qs} {qs′} {os} {here} e r = subst (λ (l : List (Request L)). Reached start l os here) e r
 
@@ -106,3 +109,7 @@ take-again (suc n) (x ∷ xs) = ap (λ l. x ∷ l) (take-again n xs)
 -- the cells given back are those that the book was over
 pub cells-back : {X : Type 0} (n : ℕ) (xs back : List X) → back ≡ xs → take (length (take n xs)) back ≡ take n xs
 cells-back n xs back e = ap (λ l. take (length (take n xs)) l) e ∙ take-again n xs
+
+-- a relation of two lists, at equal ones
+pub moved : {X : Type 0} (P : List X → List X → Type 0) {a a′ b b′ : List X} → a ≡ a′ → b′ ≡ b → P a b → P a′ b′
+moved {X} P {a} {a′} {b} {b′} e f h = subst (λ (l : List X). P l b′) e (subst (λ (m : List X). P a m) (sym f) h)

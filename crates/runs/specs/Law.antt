@@ -4,7 +4,8 @@ use mathlib.Core.Bool.{true}
 use mathlib.Core.List.{List, [], _∷_, map}
 use mathlib.Core.Logic.{_↔_}
 use Prim.Native.Nat.{ℕ, _<_}
-use lib.ListN.{length, take}
+use lib.ListN.{length, take, replicate}
+use denote.Ref.{now}
 use Rattle.std.specs.Of.Vec.{vec-items}
 use Rattle.std.specs.declared.vec.Vec.{Vec}
 use Rattle.std.specs.declared.result.Result.{Result}
@@ -20,10 +21,13 @@ use Rattle.boards.specs.Meaning.{Meaning}
 use Rattle.settling.specs.Settled.{Settled-board}
 use Rattle.books.specs.Contents.{Contents, Sized, Entered, Withdrawn}
 use Rattle.books.specs.Settling.{Settles-book, Labelled}
+use Rattle.texts.specs.declared.Misread.{Misread}
+use Rattle.texts.specs.Texts.{Reads, Writes}
+use Rattle.listings.specs.Listing.{Lists}
 use Rattle.runs.specs.declared.Request.{Request}
 use Rattle.runs.specs.declared.Request.the-variants as request
 use Rattle.runs.specs.declared.Outcome.{Outcome}
-use Rattle.runs.specs.Account.{Account, account, Fresh, Answer, done, labelled, said}
+use Rattle.runs.specs.Account.{Account, account, Fresh, Answer, done, read, labelled, bytes, said}
 
 module _ {L : Type 0} (k : Kind L) where
   -- what one call gives: from the account before it and what it is given, its answer and the account after it
@@ -34,10 +38,16 @@ module _ {L : Type 0} (k : Kind L) where
       (r : Result (Unit {0}) Refusal) × (c : Contents L) × (o ≡ done r) × Entered (a .book) s r c × (b ≡ account c (a .board))
   Gives a (request.Withdraw i) o b =
       (r : Result (Unit {0}) Refusal) × (c : Contents L) × (o ≡ done r) × Withdrawn (a .book) i r c × (b ≡ account c (a .board))
+  Gives a (request.Read text) o b =
+      (r : Result (Unit {0}) Misread) × (c : Contents L) × (o ≡ read r) × Reads k (a .book) (now text) r c × (b ≡ account c (a .board))
+  Gives a (request.Write room) o b =
+      (r : Result ℕ Refusal) × (out : List ℕ) × (o ≡ bytes r out) × Writes k (a .book) (replicate room 0) r out × (b ≡ a)
   Gives a request.Settle o b =
       (r : Result (Unit {0}) Refusal) × (c : Contents L) × (m : Meaning L) × (o ≡ done r) × Settles-book k (a .book) (a .board) r c m × (b ≡ account c m)
   Gives a (request.Label x B) o b =
       (r : Result L Refusal) × (o ≡ labelled r) × Labelled k (a .book) (a .board) x B r × (b ≡ a)
+  Gives a (request.List room) o b =
+      (r : Result ℕ Refusal) × (out : List ℕ) × (o ≡ bytes r out) × Lists k (a .book) (a .board) (replicate room 0) r out × (b ≡ a)
 
   -- an account is true: its book can be, and a settled book's board has its settled labels
   pub record True-account (a : Account L) : Type 0 where
@@ -56,7 +66,10 @@ module _ {L : Type 0} (k : Kind L) where
   Claims a (request.Size z) o = Unit {0}
   Claims a (request.Enter s) o = Unit {0}
   Claims a (request.Withdraw i) o = Unit {0}
+  Claims a (request.Read text) o = Unit {0}
+  Claims a (request.Write room) o = Unit {0}
   Claims a request.Settle o = Unit {0}
+  Claims a (request.List room) o = Unit {0}
 
   -- the account is true before the call, and the answer means what it should
   abbrev pub True-and-meant : Account L → Request L → Answer L → Type 0

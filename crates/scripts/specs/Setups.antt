@@ -1,7 +1,7 @@
 -- The four lines that ask for a script's memory, and what it is to read them. Assumes nothing.
 use mathlib.Core.Path.{_≡_}
 use mathlib.Core.List.{List, [], _∷_, _++_}
-use Prim.Native.Nat.{ℕ, zero, suc, _^_, _<_, _≤_}
+use Prim.Native.Nat.{ℕ, zero, suc, _^_, _<_}
 use lib.Chars.{codes}
 use Rattle.std.specs.declared.option.Option.{Option}
 use Rattle.std.specs.declared.result.Result.{Result}
@@ -11,13 +11,9 @@ use Rattle.scripts.specs.declared.LabelKind.the-variants as kind
 use Rattle.scripts.specs.declared.BoardPlan.{BoardPlan}
 use Rattle.scripts.specs.declared.BoardPlan.the-variants as plan
 use Rattle.scripts.specs.declared.Setup.{Setup}
-use Rattle.scripts.specs.Lines.{fields}
+use Rattle.scripts.specs.Lines.{fields, Memory-fits}
 use Rattle.lines.specs.Texts.{line-at}
 use Rattle.lines.specs.Numbers.{Reads}
-
--- an amount of memory that may be asked for
-abbrev pub Memory-fits : ℕ → Type 0
-Memory-fits amount = amount ≤ 40000000
 
 abbrev pub Board-fits : BoardPlan → Type 0
 Board-fits (plan.Dense cells) = Memory-fits cells

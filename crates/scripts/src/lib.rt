@@ -6,9 +6,10 @@ ghost use lib.ListN.{length};
 ghost use lib.Chars.{codes};
 ghost use Rattle.std.specs.Of.String.{string-bytes};
 ghost use Rattle.std.specs.Vec.{made};
+ghost use Rattle.std.specs.declared.result.Result.the-variants.{Ok, Err};
 ghost use Rattle.std.specs.Written.{decimal};
 ghost use Rattle.runs.specs.Account.{said};
-ghost use Rattle.scripts.specs.Lines.{Reads-line, Same-call, answer-line, refused-line};
+ghost use Rattle.scripts.specs.Lines.{Reads-line, Same-call, answer-line, refused-line, written-answer, as-text};
 ghost use Rattle.lines.specs.Texts.{after-lines};
 ghost use Rattle.scripts.specs.Setups.{Reads-kind, Reads-memory, Reads-board, Reads-setup};
 ghost use Rattle.scripts.specs.Reading.{Reads-numbers, Reads-size, Reads-enter, Reads-withdraw, Reads-label};
@@ -25,6 +26,7 @@ use terms::Node;
 use terms::Refusal;
 use terms::Sentence;
 use terms::Sizes;
+use texts::Misread;
 
 // The most numbers that a line has.
 const MOST_NUMBERS: usize = 6;
@@ -135,7 +137,7 @@ fn board_line(line: &[u8]) -> Option<BoardPlan>
 }
 
 // The call that a line is, with the number of a label in place of the label.
-pub fn request_of(line: &[u8]) -> Option<Request<u64>>
+pub fn request_of(line: &[u8]) -> Option<Request<'_, u64>>
     ensures { λ r. ⌜ Reads-line (now (line .entry)) r ⌝ }
 {
     if let Some(sizes) = size_line(line) {
@@ -146,6 +148,12 @@ pub fn request_of(line: &[u8]) -> Option<Request<u64>>
     }
     if let Some(number) = withdraw_line(line) {
         return Some(Request::Withdraw(number));
+    }
+    if let Some(room) = memory_line(line, b"write") {
+        return Some(Request::Write(room));
+    }
+    if let Some(room) = memory_line(line, b"list") {
+        return Some(Request::List(room));
     }
     if line == b"settle" {
         return Some(Request::Settle);
@@ -221,7 +229,7 @@ fn numbers(line: &[u8], word: &[u8], limits: &[u64]) -> Option<[u64; MOST_NUMBER
 }
 
 // The same call with the label that has the number; none where no label of the kind has it.
-pub fn labelled<L: Label>(request: &Request<u64>) -> Option<Request<L>>
+pub fn labelled<'a, L: Label>(request: &Request<'a, u64>) -> Option<Request<'a, L>>
     ensures { λ r. ⌜ Same-call (L·Label .kind) (now (request .entry)) r ⌝ }
 {
     match request {
@@ -235,24 +243,71 @@ pub fn labelled<L: Label>(request: &Request<u64>) -> Option<Request<L>>
             label: L::from_number(sentence.label)?,
         })),
         Request::Withdraw(number) => Some(Request::Withdraw(*number)),
+        Request::Read(text) => Some(Request::Read(text)),
+        Request::Write(room) => Some(Request::Write(*room)),
         Request::Settle => Some(Request::Settle),
         Request::Label(node, concept) => Some(Request::Label(*node, *concept)),
+        Request::List(room) => Some(Request::List(*room)),
     }
 }
 
-// The line that answers a call.
+// The line that answers a call, and below it what the call wrote.
 pub fn answer<L: Label>(heap: Global, outcome: &Outcome<L>) -> Result<String, AllocError>
     ensures { λ r. ⌜ made r (λ s. string-bytes s ≡ answer-line (L·Label .kind) (said (now (outcome .entry)))) ⌝ }
 {
     match outcome {
         Outcome::Done(Ok(())) => String::from_str(heap, "ok"),
         Outcome::Done(Err(refusal)) => refused(heap, *refusal),
+        Outcome::Read(Ok(())) => String::from_str(heap, "ok"),
+        Outcome::Read(Err(misread)) => misread_line(heap, *misread),
         Outcome::Label(Ok(label)) => {
             let number = label.number();
             format!(heap, "ok {number}")
         }
         Outcome::Label(Err(refusal)) => refused(heap, *refusal),
+        Outcome::Bytes(Ok(count), memory) => written(heap, *count, memory),
+        Outcome::Bytes(Err(refusal), memory) => short(heap, *refusal, memory),
     }
+}
+
+// The line that tells a refused reading.
+fn misread_line(heap: Global, misread: Misread) -> Result<String, AllocError>
+    ensures { λ r. ⌜ made r (λ s. string-bytes s ≡ refused-line (misread .refusal) ++ (codes " line " ++ decimal (misread .line))) ⌝ }
+{
+    let number = misread.refusal.number();
+    let line = misread.line;
+    format!(heap, "refused {number} line {line}")
+}
+
+// The answer to a call that wrote: how much, and below it what was written.
+fn written(heap: Global, count: usize, memory: &[u8]) -> Result<String, AllocError>
+    ensures { λ r. ⌜ made r (λ s. string-bytes s ≡ written-answer (Ok count) (now (memory .entry))) ⌝ }
+{
+    let mut text = format!(heap, "ok {count}\n")?;
+    push_bytes(&mut text, &memory[0..count.min(memory.len())])?;
+    Ok(text)
+}
+
+// The answer to a call that could not write all: the refusal, and below it the first bytes that fit.
+fn short(heap: Global, refusal: Refusal, memory: &[u8]) -> Result<String, AllocError>
+    ensures { λ r. ⌜ made r (λ s. string-bytes s ≡ written-answer (Err refusal) (now (memory .entry))) ⌝ }
+{
+    let mut text = refused(heap, refusal)?;
+    if refusal.number() == 9 {
+        text.push_str("\n")?;
+        push_bytes(&mut text, memory)?;
+    }
+    Ok(text)
+}
+
+// Adds bytes to a text, as characters of those numbers.
+fn push_bytes(text: &mut String, bytes: &[u8]) -> Result<(), AllocError>
+    ensures { λ r. ⌜ made r (λ _. string-bytes (now (text .exit)) ≡ string-bytes (now (text .entry)) ++ as-text (now (bytes .entry))) ⌝ }
+{
+    for byte in bytes {
+        text.push(char::from(*byte))?;
+    }
+    Ok(())
 }
 
 // The line that tells a refusal.

@@ -128,10 +128,10 @@ fn answered<L: Label, B: Board<L>>(
 }
 
 // Notes the calls of the lines, the first of which is line 5 of the script, and says how each line is answered.
-fn take_lines<L: Label>(
+fn take_lines<'a, L: Label>(
     heap: Global,
-    lines: &[u8],
-    requests: &mut Vec<Request<L>>,
+    lines: &'a [u8],
+    requests: &mut Vec<Request<'a, L>>,
 ) -> Result<Vec<Reply>, AllocError>
     requires { ⌜ vec-items (now requests) ≡ [] ⌝ }
     ensures { λ r. ⌜ made r (λ v. Noted (L·Label .kind) 5 (now (lines .entry)) (vec-items v) (vec-items (now (requests .exit)))) ⌝ }
@@ -149,10 +149,10 @@ fn take_lines<L: Label>(
 }
 
 // Notes the call of a line, if it is one, and says how the line is answered.
-fn take_line<L: Label>(
-    line: &[u8],
+fn take_line<'a, L: Label>(
+    line: &'a [u8],
     number: usize,
-    requests: &mut Vec<Request<L>>,
+    requests: &mut Vec<Request<'a, L>>,
 ) -> Result<Reply, AllocError>
     ensures { λ r. ⌜ made r (λ reply. Notes (L·Label .kind) number (now (line .entry)) (vec-items (now (requests .entry))) reply (vec-items (now (requests .exit)))) ⌝ }
 {

@@ -10,8 +10,8 @@ use Rattle.std.specs.Of.Vec.{vec-items}
 use Rattle.std.proofs.shelf.Lists.{take-more}
 use Rattle.books.specs.Held.{contents}
 use Rattle.runs.specs.Account.{account, said}
-use Rattle.runs.proofs.Steps.{law-err, cells-back, reached-all, reached-start, reached-again, run}
-use Rattle.runs.proofs.perform.Given.{Over}
+use Rattle.runs.specs.Law.{logged}
+use Rattle.runs.proofs.Steps.{law-err, cells-back, reached-all, reached-at, reached-start, reached-again, run}
 use Rattle.runs.proofs.perform.Needs as need
 
 pub loop-request-holds : need.loop-request-holds
@@ -22,20 +22,18 @@ loop-request-holds g c = (
       (ap (λ l. map said l) (c .new-log .ensures .items)),
 )
 
--- one request more of the list
-one-more : (g : Over) (c : need.In-Continue-push g) → take (c .loop-request .request-index + 1) (c .args .requests .now) ≡ take (c .loop-request .request-index) (c .args .requests .now) ++ (c .request-item .result ∷ [])
-one-more g c =
-    take-more (c .args .requests .now) (c .loop-request .request-index) (c .request-item .result) (omega arith)
-    ∙ ap (λ q. take (c .loop-request .request-index) (c .args .requests .now) ++ (q ∷ [])) (sym (c .request-item .is))
-
 pub loop-request-again : need.loop-request-again
 loop-request-again g c =
     let i = c .loop-request .inv in
-    let e = c .perform-one-outcome .ensures in (
+    let e = c .in-Continue-outcome .ensures tt in
+    let requests = c .args .requests .now in
+    let item = c .request-item .result in
+    let more : take (c .loop-request .request-index + 1) requests ≡ take (c .loop-request .request-index) requests ++ (item ∷ []) =
+    take-more requests (c .loop-request .request-index) item (omega arith) ∙ ap (λ q. take (c .loop-request .request-index) requests ++ (q ∷ [])) (sym (c .request-item .is)) in (
       e .kept,
       e .same-cells ∙ i .1,
-      reached-again (g .L·Label .kind) _ (take (c .loop-request .request-index) (c .args .requests .now)) _ (vec-items (c .loop-request .log)) (vec-items (c .push .last .self)) _
-          (c .request-item .result) (c .perform-one-outcome .result) _ (one-more g c) (c .in-Continue-push .ensures tt .items) (i .2) (e .step),
+      reached-again (g .L·Label .kind) _ (take (c .loop-request .request-index) requests) _ (vec-items (c .loop-request .log)) (vec-items (c .push .last .self)) _
+          item (c .in-Continue-outcome .outcome) _ more (c .in-Continue-push .ensures tt .items) (i .2) (e .step),
     )
 
 pub returns : need.returns
@@ -49,12 +47,26 @@ returns g c =
           (cells-back (c .loop-request .book .count) (now (c .loop-request .book .cells)) _ (let same = i .1 in let over = c .blank-book .ensures .over-them in search needs)) refl;
     }
 
+pub returns-in-Break-outcome : need.returns-in-Break-outcome
+returns-in-Break-outcome g c =
+    let i = c .loop-request .inv in
+    let e = c .in-Break-outcome .ensures tt in
+    let book = c .perform-one .last .book in
+    let here = account (contents book) (g .B·Board .meaning (c .perform-one .last .board)) in
+    record {
+      kept = e .kept;
+      law =
+          law-err (g .L·Label .kind) _ _ (c .args .requests .now) _ (c .from-residual .ensures .0) (c .loop-request .request-index) (logged (c .loop-request .log))
+          (run (g .L·Label .kind) _ _ _ _ _ here (reached-at (g .L·Label .kind) (e .step) (i .2)) (c .blank-book .ensures .blank) (c .clear .ensures .cleared)
+          (cells-back (book .count) (now (book .cells)) _ (let same = e .same-cells in let earlier = i .1 in let over = c .blank-book .ensures .over-them in search needs)) refl);
+    }
+
 pub returns-in-Break-push : need.returns-in-Break-push
 returns-in-Break-push g c =
     let i = c .loop-request .inv in
-    let e = c .perform-one-outcome .ensures in
-    let book = c .perform-one-outcome .last .book in
-    let here = account (contents book) (g .B·Board .meaning (c .perform-one-outcome .last .board)) in
+    let e = c .in-Continue-outcome .ensures tt in
+    let book = c .perform-one .last .book in
+    let here = account (contents book) (g .B·Board .meaning (c .perform-one .last .board)) in
     let requests = c .args .requests .now in
     let log = vec-items (c .loop-request .log) in
     let item = c .request-item .result in
@@ -63,9 +75,9 @@ returns-in-Break-push g c =
     record {
       kept = e .kept;
       law =
-          law-err (g .L·Label .kind) _ _ requests _ (c .from-residual .ensures .0) (c .loop-request .request-index + 1) (map said (log ++ (c .perform-one-outcome .result ∷ [])))
+          law-err (g .L·Label .kind) _ _ requests _ (c .from-residual-in-Break-push .ensures .0) (c .loop-request .request-index + 1) (map said (log ++ (c .in-Continue-outcome .outcome ∷ [])))
           (run (g .L·Label .kind) _ _ _ _ _ here
-          (reached-again (g .L·Label .kind) _ (take (c .loop-request .request-index) requests) _ log _ _ item (c .perform-one-outcome .result) _ more refl (i .2) (e .step))
+          (reached-again (g .L·Label .kind) _ (take (c .loop-request .request-index) requests) _ log _ _ item (c .in-Continue-outcome .outcome) _ more refl (i .2) (e .step))
           (c .blank-book .ensures .blank) (c .clear .ensures .cleared)
-          (cells-back (book .count) (now (book .cells)) _ (let same = e .same-cells in let earlier = i .1 in let over = c .blank-book .ensures .over-them in search needs)) refl);
+          (cells-back (book .count) (now (book .cells)) _ (c .in-Break-push .cells-in-Break·-branch-2·1·own .given .1 .1 (sym (e .same-cells ∙ (i .1 ∙ c .blank-book .ensures .over-them))))) refl);
     }
