@@ -1,4 +1,6 @@
 // A board: the store of labels, one for each place. Settling works on any.
+#![tactic(auto)]
+
 ghost use Rattle.std.specs.Prelude.{◌≡◌, ◌≤◌};
 ghost use Rattle.boards.specs.Meaning.{Meaning, Put, Cleared, NextSome};
 

@@ -1,4 +1,6 @@
 // Books: made blank, sized, entered into, withdrawn from, settled and asked.
+#![tactic(auto)]
+
 ghost use Rattle.std.specs.Prelude.{◌≡◌, ◌+◌, ◌<◌, length};
 ghost use Rattle.books.specs.Contents.{blank_book, Sized, Entered, Withdrawn};
 ghost use Rattle.books.specs.Held.{contents, SameCells, CopiedDown};

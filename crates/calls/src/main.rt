@@ -1,4 +1,6 @@
 // Reads a list of calls from standard input, makes them on a book and a board made now, and prints what each answers.
+#![tactic(auto)]
+
 use sessions::answers;
 use std::io;
 use std::io::{Read, Write};

@@ -1,4 +1,6 @@
 // Reads the text of a book in grade labels from standard input, and prints the listing of its settled labels, or why there is none.
+#![tactic(auto)]
+
 use boards::{Entry, Sparse};
 use labels::Grade;
 use responding::{LARGEST_BOARD, read_input, respond};

@@ -1,4 +1,6 @@
 // A label means a set of views; a kind of label fixes how many views there are and how a set is kept.
+#![tactic(auto)]
+
 ghost use Rattle.std.specs.Prelude.{◌≡◌};
 ghost use Rattle.labels.specs.Kind.{Kind, Lawful, held, LabelOfNumber};
 ghost use Rattle.labels.specs.Kinds.{model_kind, grade_kind, whole_kind};

@@ -1,4 +1,6 @@
 // Lines: a text in bytes, line by line and number by number.
+#![tactic(auto)]
+
 ghost use Rattle.std.specs.Prelude.{◌≡◌, ◌<◌, ◌≤◌, length, decimal, Decides, slice_index};
 ghost use Rattle.lines.specs.Texts.{FirstAt, first_line, after_line, LineAndRest};
 ghost use Rattle.lines.specs.Numbers.{Reads, ReadsFirst, Grows};

@@ -1,4 +1,6 @@
 // Listings: the settled labels of a book as text.
+#![tactic(auto)]
+
 ghost use Rattle.std.specs.Prelude.{◌≡◌, ◌≤◌, false, [], ◌∷◌, length, Ok};
 ghost use Rattle.terms.specs.Places.{outside_limits};
 ghost use Rattle.books.specs.Held.{contents};

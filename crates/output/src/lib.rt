@@ -1,4 +1,6 @@
 // Output: items written one after another into lent memory, as many as fit.
+#![tactic(auto)]
+
 ghost use Rattle.std.specs.Prelude.{[], ◌∷◌, ◌++◌, decimal};
 ghost use Rattle.output.specs.Puts.{Puts};
 

@@ -1,4 +1,6 @@
 // From the text of a book to the listing of its labels: every byte that the programs print.
+#![tactic(auto)]
+
 ghost use Rattle.std.specs.Prelude.{◌≡◌, ◌≤◌, length, IfOk};
 ghost use Rattle.books.specs.Held.{contents, SameCells};
 ghost use Rattle.responding.specs.Once.{OneAnswer};

@@ -1,4 +1,6 @@
 // Runs: any list of calls on a book and a board made now, and a log of what each gave. The contract of `perform` is the whole promise.
+#![tactic(auto)]
+
 ghost use Rattle.books.specs.Held.{contents, SameCells};
 ghost use Rattle.runs.specs.Account.{account};
 ghost use Rattle.runs.specs.Law.{Law, memory};

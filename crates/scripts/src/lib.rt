@@ -1,4 +1,6 @@
 // Scripts: a list of calls as text, one to a line below four lines that say what memory to set aside, and the lines that answer them.
+#![tactic(auto)]
+
 ghost use Rattle.std.specs.Prelude.{◌≡◌, ◌≤◌, ◌++◌, length, IfOk, Ok, Err, string_bytes, codes, decimal, OnOk};
 ghost use Rattle.runs.specs.Account.{said};
 ghost use Rattle.scripts.specs.Lines.{ReadsLine, SameCall, answer_line, refused_line, written_answer, as_text};

@@ -1,4 +1,6 @@
 // Sessions: a whole script answered. The memory that it asks for is set aside, its calls are made, and each line gets its answer.
+#![tactic(auto)]
+
 ghost use Rattle.std.specs.Prelude.{◌≡◌, [], map, length, replicate, IfOk, vec_len, string_bytes};
 ghost use Rattle.runs.specs.Account.{said};
 ghost use Rattle.runs.specs.Law.{memory};

@@ -1,4 +1,6 @@
 // Settling: the field's completion. One settling serves every kind of label and every board.
+#![tactic(auto)]
+
 ghost use Rattle.std.specs.Prelude.{◌≡◌, ℕ, ◌<◌, [], ◌∷◌, ◌≢◌};
 ghost use Rattle.terms.specs.Lists.{each};
 ghost use Rattle.terms.specs.Places.{nodes, member};

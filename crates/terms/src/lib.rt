@@ -1,4 +1,6 @@
 // What books, boards, sheets and descriptions are spoken of in: names, sizes, sentences, records and refusals.
+#![tactic(auto)]
+
 ghost use Rattle.std.specs.Prelude.{◌≡◌};
 ghost use Rattle.terms.specs.Refusals.{number_of};
 

@@ -1,4 +1,6 @@
 // Answers each text that is named on the command line, under its name, as the program does whose name stands before it.
+#![tactic(auto)]
+
 use boards::{Entry, Sparse};
 use labels::{Grade, Label, Model};
 use responding::{LARGEST_BOARD, read_input, respond};

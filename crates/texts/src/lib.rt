@@ -1,4 +1,6 @@
 // The text of a book, read and written.
+#![tactic(auto)]
+
 use terms::Refusal;
 
 pub mod read;

@@ -1,4 +1,6 @@
 // Answers each script that is named on the command line, under its name.
+#![tactic(auto)]
+
 use sessions::answers;
 use std::io::Write;
 use std::{env, fs};

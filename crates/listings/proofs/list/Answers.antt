@@ -10,8 +10,8 @@ use Rattle.output.proofs.Putting.{puts_fill}
 use Rattle.listings.specs.Listing.{listing}
 use Rattle.listings.proofs.list.Goals as goal
 
-pub put-listing-requires : goal.put-listing-requires
-put-listing-requires g c =
+pub put_listing-requires : goal.put_listing-requires
+put_listing-requires g c =
     let b = c.args.book.now in
     let cells = b.cells.now in
     let can_be = sound_can_be cells b.count b.sizes b.sound in
@@ -26,9 +26,9 @@ returns g c =
     let k = g.L.Label.kind in
     let m = g.B.Board.meaning c.args.board.now in
     let old = c.args.out.now in
-    let new = c.put-listing.new.out in
-    let r = c.put-listing.result in
+    let new = c.put_listing.new.out in
+    let r = c.put_listing.result in
     faultless (first_fault ((not b.settled, NotSettled) ∷ [])) r (new ≡ old) (λ answer. Fills (listing k b.sizes m) old answer new)
-    (past_check (not b.settled) NotSettled [] (ap not (sym c.if-not-is-settled.ensures)) refl)
+    (past_check (not b.settled) NotSettled [] (ap not (sym c.if-not-is_settled.ensures)) refl)
     (puts_fill (listing k b.sizes m) old new r
-    (subst (λ z. Puts old (Ok 0) (listing k z m) r new) c.sizes.ensures c.put-listing.ensures))
+    (subst (λ z. Puts old (Ok 0) (listing k z m) r new) c.sizes.ensures c.put_listing.ensures))

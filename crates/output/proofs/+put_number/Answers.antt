@@ -12,6 +12,6 @@ returns-then-number-lt10 t c =
 pub returns : goal.returns
 returns t c =
     let number = c.args.number in
-    puts_on c.args.out.now c.put-number-front.new.out c.put-2.new.out (decimal (number / 10)) ((48 + number % 10) ∷ [])
-    (decimal number) c.args.at c.put-number-front.result c.put-2.result (decimal_step number (omega arith) (omega arith))
-    c.put-number-front.ensures c.put-2.ensures
+    puts_on c.args.out.now c.put_number-front.new.out c.put-2.new.out (decimal (number / 10)) ((48 + number % 10) ∷ [])
+    (decimal number) c.args.at c.put_number-front.result c.put-2.result (decimal_step number (omega arith) (omega arith))
+    c.put_number-front.ensures c.put-2.ensures

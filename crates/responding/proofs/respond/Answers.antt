@@ -7,29 +7,29 @@ use Rattle.responding.proofs.respond.Goals as goal
 
 pub returns-in-Ok : goal.returns-in-Ok
 returns-in-Ok g c =
-    let book = c.list-text.new.book in
+    let book = c.list_text.new.book in
     let before = memory c.args.cells.now (g.B.Board.meaning c.args.board.now) c.args.out.now in
-    let held = holding (contents book) (g.B.Board.meaning c.list-text.new.board) c.list-text.new.out in
+    let held = holding (contents book) (g.B.Board.meaning c.list_text.new.board) c.list_text.new.out in
     record {
-      kept = c.list-text.ensures.kept;
+      kept = c.list_text.ensures.kept;
       within = omega (arith, c.in-Ok.ensures.tried.within);
       prints =
           prints_listing g.L.Label.kind c.args.input.now before _ held
-          (cells_back book.count book.cells.now _ (let same = c.list-text.ensures.same_cells in let over = c.blank_book.ensures.over-them in search rules))
+          (cells_back book.count book.cells.now _ (let same = c.list_text.ensures.same_cells in let over = c.blank_book.ensures.over_them in search rules))
           (contents c.blank_book.result) c.blank_book.ensures.blank c.in-Ok.count c.in-Ok.ensures.tried;
     }
 
 pub returns-in-Err : goal.returns-in-Err
 returns-in-Err g c =
-    let book = c.list-text.new.book in
+    let book = c.list_text.new.book in
     let before = memory c.args.cells.now (g.B.Board.meaning c.args.board.now) c.args.out.now in
-    let held = holding (contents book) (g.B.Board.meaning c.list-text.new.board) c.list-text.new.out in
+    let held = holding (contents book) (g.B.Board.meaning c.list_text.new.board) c.list_text.new.out in
     record {
-      kept = c.list-text.ensures.kept;
-      within = omega (arith, c.put-refusal.ensures.within, c.list-text.auto.out);
+      kept = c.list_text.ensures.kept;
+      within = omega (arith, c.put_refusal.ensures.within, c.list_text.auto.out);
       prints =
           prints_refusal g.L.Label.kind c.args.input.now before _ held
-          (cells_back book.count book.cells.now _ (let same = c.list-text.ensures.same_cells in let over = c.blank_book.ensures.over-them in search rules))
-          (contents c.blank_book.result) c.blank_book.ensures.blank c.in-Err.misread c.put-refusal.result c.put-refusal.new.out c.in-Err.ensures.tried
-          c.put-refusal.ensures;
+          (cells_back book.count book.cells.now _ (let same = c.list_text.ensures.same_cells in let over = c.blank_book.ensures.over_them in search rules))
+          (contents c.blank_book.result) c.blank_book.ensures.blank c.in-Err.misread c.put_refusal.result c.put_refusal.new.out c.in-Err.ensures.tried
+          c.put_refusal.ensures;
     }

@@ -18,7 +18,7 @@ loop-request-init g c = (
 pub loop-request-preserved : goal.loop-request-preserved
 loop-request-preserved g c =
     let i = c.loop-request.invariant in
-    let e = c.in-ok-outcome.ensures in
+    let e = c.in_ok-outcome.ensures in
     let requests = c.args.requests.now in
     let item = c.request-item.result in
     let more : take (c.loop-request.request-index + 1) requests ≡ take c.loop-request.request-index requests ++ (item ∷ []) =
@@ -26,7 +26,7 @@ loop-request-preserved g c =
       e.kept,
       e.same_cells ∙ i.1,
       reached_again g.L.Label.kind _ (take c.loop-request.request-index requests) _ (vec_items c.loop-request.log) (vec_items c.push.new.self) _
-          item c.in-ok-outcome.outcome _ more c.in-ok-push.ensures.items i.2 e.step,
+          item c.in_ok-outcome.outcome _ more c.in_ok-push.ensures.items i.2 e.step,
     )
 
 pub returns : goal.returns
@@ -37,29 +37,29 @@ returns g c =
       law =
           run g.L.Label.kind _ _ _ _ _ (account (contents c.loop-request.book) (g.B.Board.meaning c.loop-request.board))
           (reached_all g.L.Label.kind (take_all c.loop-request.request-index c.args.requests.now (omega arith)) i.2) c.blank_book.ensures.blank c.clear.ensures.cleared
-          (cells_back c.loop-request.book.count c.loop-request.book.cells.now _ (let same = i.1 in let over = c.blank_book.ensures.over-them in search rules)) refl;
+          (cells_back c.loop-request.book.count c.loop-request.book.cells.now _ (let same = i.1 in let over = c.blank_book.ensures.over_them in search rules)) refl;
     }
 
-pub returns-in-err-outcome : goal.returns-in-err-outcome
-returns-in-err-outcome g c =
+pub returns-in_err-outcome : goal.returns-in_err-outcome
+returns-in_err-outcome g c =
     let i = c.loop-request.invariant in
-    let e = c.in-err-outcome.ensures in
-    let book = c.perform-one.new.book in
-    let here = account (contents book) (g.B.Board.meaning c.perform-one.new.board) in
+    let e = c.in_err-outcome.ensures in
+    let book = c.perform_one.new.book in
+    let here = account (contents book) (g.B.Board.meaning c.perform_one.new.board) in
     record {
       kept = e.kept;
       law =
-          law_err g.L.Label.kind _ _ c.args.requests.now _ c.from-residual.ensures.0 c.loop-request.request-index (logged c.loop-request.log)
+          law_err g.L.Label.kind _ _ c.args.requests.now _ c.from_residual.ensures.0 c.loop-request.request-index (logged c.loop-request.log)
           (run g.L.Label.kind _ _ _ _ _ here (reached_at g.L.Label.kind e.step i.2) c.blank_book.ensures.blank c.clear.ensures.cleared
-          (cells_back book.count book.cells.now _ (let same = e.same_cells in let earlier = i.1 in let over = c.blank_book.ensures.over-them in search rules)) refl);
+          (cells_back book.count book.cells.now _ (let same = e.same_cells in let earlier = i.1 in let over = c.blank_book.ensures.over_them in search rules)) refl);
     }
 
-pub returns-in-err-push : goal.returns-in-err-push
-returns-in-err-push g c =
+pub returns-in_err-push : goal.returns-in_err-push
+returns-in_err-push g c =
     let i = c.loop-request.invariant in
-    let e = c.in-ok-outcome.ensures in
-    let book = c.perform-one.new.book in
-    let here = account (contents book) (g.B.Board.meaning c.perform-one.new.board) in
+    let e = c.in_ok-outcome.ensures in
+    let book = c.perform_one.new.book in
+    let here = account (contents book) (g.B.Board.meaning c.perform_one.new.board) in
     let requests = c.args.requests.now in
     let log = vec_items c.loop-request.log in
     let item = c.request-item.result in
@@ -68,9 +68,9 @@ returns-in-err-push g c =
     record {
       kept = e.kept;
       law =
-          law_err g.L.Label.kind _ _ requests _ c.from-residual-in-err-push.ensures.0 (c.loop-request.request-index + 1) (map said (log ++ (c.in-ok-outcome.outcome ∷ [])))
+          law_err g.L.Label.kind _ _ requests _ c.from_residual-in_err-push.ensures.0 (c.loop-request.request-index + 1) (map said (log ++ (c.in_ok-outcome.outcome ∷ [])))
           (run g.L.Label.kind _ _ _ _ _ here
-          (reached_again g.L.Label.kind _ (take c.loop-request.request-index requests) _ log _ _ item c.in-ok-outcome.outcome _ more refl i.2 e.step)
+          (reached_again g.L.Label.kind _ (take c.loop-request.request-index requests) _ log _ _ item c.in_ok-outcome.outcome _ more refl i.2 e.step)
           c.blank_book.ensures.blank c.clear.ensures.cleared
-          (cells_back book.count book.cells.now _ (c.in-err-push.cells-in-Break·-branch-2·1·own.given.1.1 (sym (e.same_cells ∙ (i.1 ∙ c.blank_book.ensures.over-them))))) refl);
+          (cells_back book.count book.cells.now _ (c.in_err-push.cells-in-Break·-branch-2·1·own.given.1.1 (sym (e.same_cells ∙ (i.1 ∙ c.blank_book.ensures.over_them))))) refl);
     }

@@ -52,26 +52,26 @@ pub returns-in-Read : goal.returns-in-Read
 returns-in-Read g c =
     record {
       kept = c.requires;
-      same_cells = c.read-text.ensures.same_cells;
-      step = made_by g.L.Label.kind g.L.Label.laws c.in-Read.is _ _ _ (c.read-text.result, contents c.read-text.new.book, refl, c.read-text.ensures.reads, refl);
+      same_cells = c.read_text.ensures.same_cells;
+      step = made_by g.L.Label.kind g.L.Label.laws c.in-Read.is _ _ _ (c.read_text.result, contents c.read_text.new.book, refl, c.read_text.ensures.reads, refl);
     }
 
-pub returns-in-ok-out : goal.returns-in-ok-out
-returns-in-ok-out g c =
-    let old = c.deref-mut.ensures.value ∙ c.in-ok-out.ensures.items-if-clones-equal (λ y e. e) in
-    let new = with_items_is c.in-ok-out.out c.write-text-answer.new.out (c.write-text-answer.auto.out ∙ c.deref-mut.ensures.len) in
+pub returns-in_ok-out : goal.returns-in_ok-out
+returns-in_ok-out g c =
+    let old = c.deref-mut.ensures.value ∙ c.in_ok-out.ensures.items-if-clones-equal (λ y e. e) in
+    let new = with_items_is c.in_ok-out.out c.write_text-answer.new.out (c.write_text-answer.auto.out ∙ c.deref-mut.ensures.len) in
     record {
       kept = c.requires;
       same_cells = refl;
       step =
           made_by g.L.Label.kind g.L.Label.laws c.in-Write.is _ _ _
-          (c.write-text-answer.result, _, refl, moved (λ old new. Writes g.L.Label.kind (contents c.args.book.now) old c.write-text-answer.result new) old new c.write-text-answer.ensures, refl);
+          (c.write_text-answer.result, _, refl, moved (λ old new. Writes g.L.Label.kind (contents c.args.book.now) old c.write_text-answer.result new) old new c.write_text-answer.ensures, refl);
     }
 
-pub returns-in-ok-out-2 : goal.returns-in-ok-out-2
-returns-in-ok-out-2 g c =
-    let old = c.deref-mut-in-List.ensures.value ∙ c.in-ok-out-2.ensures.items-if-clones-equal (λ y e. e) in
-    let new = with_items_is c.in-ok-out-2.out c.list-answer.new.out (c.list-answer.auto.out ∙ c.deref-mut-in-List.ensures.len) in
+pub returns-in_ok-out-2 : goal.returns-in_ok-out-2
+returns-in_ok-out-2 g c =
+    let old = c.deref-mut-in-List.ensures.value ∙ c.in_ok-out-2.ensures.items-if-clones-equal (λ y e. e) in
+    let new = with_items_is c.in_ok-out-2.out c.list-answer.new.out (c.list-answer.auto.out ∙ c.deref-mut-in-List.ensures.len) in
     record {
       kept = c.requires;
       same_cells = refl;

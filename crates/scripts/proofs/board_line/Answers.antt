@@ -9,5 +9,5 @@ no_board : (line : List ℕ) → ReadsNumbers (codes "board dense") (40000000 �
 no_board line dense sparse (plan.Dense cells) fit e = dense (cells ∷ []) (fit, tt) e
 no_board line dense sparse (plan.Sparse size entries) fit e = sparse (size ∷ (entries ∷ [])) (omega (arith, fit.0), (fit.1, tt)) e
 
-pub returns-in-err-found : goal.returns-in-err-found
-returns-in-err-found c = rw c.from-residual.ensures (no_board c.args.line.now c.in-default.ensures c.in-err-found.ensures)
+pub returns-in_err-found : goal.returns-in_err-found
+returns-in_err-found c = rw c.from_residual.ensures (no_board c.args.line.now c.in_default.ensures c.in_err-found.ensures)

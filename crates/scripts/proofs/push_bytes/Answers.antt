@@ -8,7 +8,7 @@ loop-byte-init c = none_added (string_bytes c.args.text.now) c.args.bytes.now
 pub loop-byte-preserved : goal.loop-byte-preserved
 loop-byte-preserved c =
     one_more (string_bytes c.args.text.now) c.args.bytes.now (string_bytes c.loop-byte.text) (string_bytes c.push.new.self) c.loop-byte.byte-index
-    c.from.result (omega arith) c.from.ensures c.loop-byte.invariant c.in-ok-push.ensures.bytes
+    c.from.result (omega arith) c.from.ensures c.loop-byte.invariant c.in_ok-push.ensures.bytes
 
 pub returns : goal.returns
 returns c =

@@ -24,9 +24,9 @@ no_call line size enter withdraw write list settle label (request.List room) fit
 pub returns-then-eq : goal.returns-then-eq
 returns-then-eq c = (tt, (slice_eq-Decides Decides-eqb c.args.line.now (codes "settle") c.eq.result c.eq.ensures).0 c.if-eq.true)
 
-pub returns-in-err-node : goal.returns-in-err-node
-returns-in-err-node c =
-    rw c.from-residual.ensures
-    (no_call c.args.line.now c.in-default.ensures c.in-default-enter-line.ensures c.in-default-withdraw-line.ensures
-    c.in-default-memory-line.ensures c.in-default-memory-line-2.ensures (λ e. both_ways c.eq.result c.if-eq.false ((slice_eq-Decides Decides-eqb c.args.line.now (codes "settle") c.eq.result c.eq.ensures).1 e))
-    c.in-err-node.ensures)
+pub returns-in_err-node : goal.returns-in_err-node
+returns-in_err-node c =
+    rw c.from_residual.ensures
+    (no_call c.args.line.now c.in_default.ensures c.in_default-enter_line.ensures c.in_default-withdraw_line.ensures
+    c.in_default-memory_line.ensures c.in_default-memory_line-2.ensures (λ e. both_ways c.eq.result c.if-eq.false ((slice_eq-Decides Decides-eqb c.args.line.now (codes "settle") c.eq.result c.eq.ensures).1 e))
+    c.in_err-node.ensures)

@@ -4,6 +4,6 @@ use Rattle.sessions.proofs.filled.Goals as goal
 
 pub loop-preserved : goal.loop-preserved
 loop-preserved g c = (
-  c.in-ok-push.ensures.items ∙ ap (λ l. l ++ (c.args.item ∷ [])) c.loop.invariant.0 ∙ replicate_more c.loop.counter c.args.item,
+  c.in_ok-push.ensures.items ∙ ap (λ l. l ++ (c.args.item ∷ [])) c.loop.invariant.0 ∙ replicate_more c.loop.counter c.args.item,
   search rules,
 )

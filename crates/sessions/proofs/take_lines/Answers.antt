@@ -8,11 +8,11 @@ pub loop-rest-preserved : goal.loop-rest-preserved
 loop-rest-preserved g c =
     let l = c.loop-rest in
     let some : 0 < length l.rest.now = omega (arith, eqb-false _ _ (sym c.loop-rest-test.ensures)) in
-    let shorter = c.after-line-rest.ensures.shorter some in (
-      rw (add-one, c.after-line-rest.ensures.rest)
+    let shorter = c.after_line-rest.ensures.shorter some in (
+      rw (add-one, c.after_line-rest.ensures.rest)
           (completes_more g.L.Label.kind 5 c.args.lines.now l.number l.rest.now c.first_line.result.now _
-          (vec_items l.replies) (vec_items c.push.new.self) (vec_items l.requests) (vec_items c.take-line.new.requests) c.in-ok-reply.reply
-          some c.first_line.ensures.whole c.in-ok-reply.ensures c.in-ok-push.ensures.items l.invariant.0),
+          (vec_items l.replies) (vec_items c.push.new.self) (vec_items l.requests) (vec_items c.take_line.new.requests) c.in_ok-reply.reply
+          some c.first_line.ensures.whole c.in_ok-reply.ensures c.in_ok-push.ensures.items l.invariant.0),
       omega (arith, l.invariant.1),
     )
 

@@ -2,7 +2,7 @@ use Rattle.std.proofs.Common.{◌≡◌, [], ◌∷◌, ◌++◌, string_bytes, 
 use Rattle.sessions.proofs.Telling.{answer_left, counted_as, told_call, told_no_label, told_no_call, told_all}
 use Rattle.sessions.proofs.told.Given.{Over}
 use Rattle.sessions.proofs.told.Goals as goal
-use Rattle.sessions.proofs.told.Goals.{in-Made+in-ok-line, in-NoSuchLabel+in-ok-line-2, in-BadLine+in-ok-line-3}
+use Rattle.sessions.proofs.told.Goals.{in-Made+in_ok-line, in-NoSuchLabel+in_ok-line-2, in-BadLine+in_ok-line-3}
 
 pub bounds-log-next : goal.bounds-log-next
 bounds-log-next g c =
@@ -12,10 +12,10 @@ bounds-log-next g c =
 -- the text after a turn: a line more, and its line feed
 line_added :
     (g : Over) (c : goal.After-drop-line-in-loop-reply g)
-    → string_bytes c.push-str-in-loop-reply.new.self ≡ (string_bytes c.loop-reply.text ++ string_bytes c.match-reply.line) ++ (10 ∷ [])
+    → string_bytes c.push_str-in-loop-reply.new.self ≡ (string_bytes c.loop-reply.text ++ string_bytes c.match-reply.line) ++ (10 ∷ [])
 line_added g c =
-    c.in-ok-push-str-2.ensures.bytes
-    ∙ ap (λ t. t ++ (10 ∷ [])) (c.in-ok-push-str.ensures.bytes ∙ ap (λ l. string_bytes c.loop-reply.text ++ l) c.as-str.ensures.value)
+    c.in_ok-push_str-2.ensures.bytes
+    ∙ ap (λ t. t ++ (10 ∷ [])) (c.in_ok-push_str.ensures.bytes ∙ ap (λ l. string_bytes c.loop-reply.text ++ l) c.as_str.ensures.value)
 
 pub loop-reply-preserved : goal.loop-reply-preserved
 loop-reply-preserved g c =
@@ -24,18 +24,18 @@ loop-reply-preserved g c =
     let replies = c.args.replies.now in
     let log = c.args.log.now in
     elim c.match-reply.branch [
-      | in-Made+in-ok-line w ↦
+      | in-Made+in_ok-line w ↦
           counted_as k replies log w.next_is
           (told_call k replies log l.reply-index l.next (string_bytes l.text) (string_bytes c.match-reply.line) _ w.index-log-next.result
-          c.loop-reply-test.true w.in-Made.is w.index-log-next.is (ap string_bytes w.line-is ∙ w.in-ok-line.ensures) (line_added g c) l.invariant)
-      | in-NoSuchLabel+in-ok-line-2 w ↦
+          c.loop-reply-test.true w.in-Made.is w.index-log-next.is (ap string_bytes w.line-is ∙ w.in_ok-line.ensures) (line_added g c) l.invariant)
+      | in-NoSuchLabel+in_ok-line-2 w ↦
           counted_as k replies log w.next_is
           (told_no_label k replies log l.reply-index l.next (string_bytes l.text) (string_bytes c.match-reply.line) _
-          c.loop-reply-test.true w.in-NoSuchLabel.is (ap string_bytes w.line-is ∙ w.in-ok-line-2.ensures) (line_added g c) l.invariant)
-      | in-BadLine+in-ok-line-3 w ↦
+          c.loop-reply-test.true w.in-NoSuchLabel.is (ap string_bytes w.line-is ∙ w.in_ok-line-2.ensures) (line_added g c) l.invariant)
+      | in-BadLine+in_ok-line-3 w ↦
           counted_as k replies log w.next_is
           (told_no_call k replies log l.reply-index l.next (string_bytes l.text) (string_bytes c.match-reply.line) _ _
-          c.loop-reply-test.true w.in-BadLine.is (ap string_bytes w.line-is ∙ w.in-ok-line-3.ensures) (line_added g c) l.invariant)
+          c.loop-reply-test.true w.in-BadLine.is (ap string_bytes w.line-is ∙ w.in_ok-line-3.ensures) (line_added g c) l.invariant)
     ]
 
 pub returns : goal.returns

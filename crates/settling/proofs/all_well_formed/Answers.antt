@@ -5,17 +5,17 @@ use Rattle.terms.specs.Sentences.{well_formed}
 use Rattle.settling.proofs.Rounds.{each_fails, each_goes_on}
 use Rattle.settling.proofs.all_well_formed.Goals as goal
 
-pub returns-then-not-is-well-formed : goal.returns-then-not-is-well-formed
-returns-then-not-is-well-formed g c =
+pub returns-then-not-is_well_formed : goal.returns-then-not-is_well_formed
+returns-then-not-is_well_formed g c =
     sym
     (each_fails (well_formed c.args.sizes) c.args.sentences.now c.loop-sentence.sentence-index c.sentence-item.result
-    c.loop-sentence-test.true c.sentence-item.is (sym c.if-not-is-well-formed.ensures))
+    c.loop-sentence-test.true c.sentence-item.is (sym c.if-not-is_well_formed.ensures))
     ∙ c.loop-sentence.invariant
 
 pub loop-sentence-preserved : goal.loop-sentence-preserved
 loop-sentence-preserved g c =
     each_goes_on (well_formed c.args.sizes) c.args.sentences.now c.loop-sentence.sentence-index c.sentence-item.result
-    c.loop-sentence-test.true c.sentence-item.is (sym c.if-not-is-well-formed.ensures)
+    c.loop-sentence-test.true c.sentence-item.is (sym c.if-not-is_well_formed.ensures)
     ∙ c.loop-sentence.invariant
 
 pub returns : goal.returns

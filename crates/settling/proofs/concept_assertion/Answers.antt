@@ -8,5 +8,5 @@ returns g c =
       kept = c.gain.ensures.kept;
       applied = concept_assertion_turn g.L.Label.laws c.args.sizes c.args.sentence (b.meaning c.args.board.now) (b.meaning c.gain.new.board)
           c.requires.ready c.requires.form
-          c.gain.result c.member-place-third.result c.args.sentence.label c.member-place-third.ensures (cc) c.gain.ensures.gained;
+          c.gain.result c.member_place-third.result c.args.sentence.label c.member_place-third.ensures (cc) c.gain.ensures.gained;
     }

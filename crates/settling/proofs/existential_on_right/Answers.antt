@@ -8,5 +8,5 @@ returns g c =
       kept = c.gain.ensures.kept;
       applied = existential_on_right_turn g.L.Label.laws c.args.sizes c.args.sentence (b.meaning c.args.board.now) (b.meaning c.gain.new.board)
           c.requires.ready c.args.node.0 c.requires.node c.requires.form
-          c.gain.result c.link-place-link.result c.both.result c.link-place-link.ensures (cc) c.gain.ensures.gained;
+          c.gain.result c.link_place-link.result c.both.result c.link_place-link.ensures (cc) c.gain.ensures.gained;
     }

@@ -8,5 +8,5 @@ returns g c =
       kept = c.gain.ensures.kept;
       applied = inclusion_turn g.L.Label.laws c.args.sizes c.args.sentence (b.meaning c.args.board.now) (b.meaning c.gain.new.board)
           c.requires.ready c.args.node.0 c.requires.node c.requires.form
-          c.gain.result c.member-place-third.result c.both.result c.member-place-third.ensures (cc) c.gain.ensures.gained;
+          c.gain.result c.member_place-third.result c.both.result c.member_place-third.ensures (cc) c.gain.ensures.gained;
     }

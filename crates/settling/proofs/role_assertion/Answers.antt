@@ -8,5 +8,5 @@ returns g c =
       kept = c.gain.ensures.kept;
       applied = role_assertion_turn g.L.Label.laws c.args.sizes c.args.sentence (b.meaning c.args.board.now) (b.meaning c.gain.new.board)
           c.requires.ready c.requires.form
-          c.gain.result c.link-place-link.result c.args.sentence.label c.link-place-link.ensures (cc) c.gain.ensures.gained;
+          c.gain.result c.link_place-link.result c.args.sentence.label c.link_place-link.ensures (cc) c.gain.ensures.gained;
     }

@@ -16,13 +16,13 @@ apply-requires g c =
           s.result (at_in c.args.sentences.now l.sentence-index s.result c.loop-sentence-test.true s.is);
     }
 
-pub returns-in-err-grew : goal.returns-in-err-grew
-returns-in-err-grew g c =
+pub returns-in_err-grew : goal.returns-in_err-grew
+returns-in_err-grew g c =
     let b = g.B.Board in
     let l = c.loop-sentence in
     let s = c.sentence-item in
-    let done = c.in-err-grew.ensures in
-    let left = left_by c.from-residual.result c.in-err-grew.field-0.0 c.from-residual.ensures.1 in
+    let done = c.in_err-grew.ensures in
+    let left = left_by c.from_residual.result c.in_err-grew.field-0.0 c.from_residual.ensures.1 in
     rw left
     (record {
       kept = done.kept;
@@ -38,7 +38,7 @@ loop-sentence-preserved g c =
     let b = g.B.Board in
     let l = c.loop-sentence in
     let s = c.sentence-item in
-    let done = c.in-ok-grew.ensures in (
+    let done = c.in_ok-grew.ensures in (
       done.kept,
       round_more c.args.sentences.now l.sentence-index s.result c.loop-sentence-test.true s.is
           (b.meaning l.board) (b.meaning c.apply.new.board) l.invariant.1 done.applied,

@@ -9,45 +9,45 @@ use Rattle.texts.proofs.read.load.Goals as goal
 pub loop-rest-init : goal.loop-rest-init
 loop-rest-init g c =
     let read = c.in-Ok.ensures.reads in (
-      so_far_own g.L.Label.kind (contents c.args.book.now).cells c.args.text.now c.in-Ok.rest.now (contents c.read-sizes.new.book) read.so_far,
+      so_far_own g.L.Label.kind (contents c.args.book.now).cells c.args.text.now c.in-Ok.rest.now (contents c.read_sizes.new.book) read.so_far,
       refl,
       omega (arith, ap length read.none_yet),
       read.shorter,
     )
 
-pub returns-in-Err-read-sentence : goal.returns-in-Err-read-sentence
-returns-in-Err-read-sentence g c =
+pub returns-in-Err-read_sentence : goal.returns-in-Err-read_sentence
+returns-in-Err-read_sentence g c =
     let k = g.L.Label.kind in let l = c.loop-rest in let text = c.args.text.now in
-    let old = contents c.args.book.now in let sized = contents c.read-sizes.new.book in
+    let old = contents c.args.book.now in let sized = contents c.read_sizes.new.book in
     let over : sized.cells ≡ old.cells = c.in-Ok.ensures.reads.so_far.over in
-    let read = c.in-Err-read-sentence.ensures.reads in
-    let bad = so_far_bad k sized.cells text l.rest.now (contents l.book) l.invariant.0 c.in-Err-read-sentence.refusal
+    let read = c.in-Err-read_sentence.ensures.reads in
+    let bad = so_far_bad k sized.cells text l.rest.now (contents l.book) l.invariant.0 c.in-Err-read_sentence.refusal
     (λ e. eqb-false (length l.rest.now) 0 (sym c.loop-rest-test.ensures) (ap length e)) read.0 in
     record {
-      same_cells = c.in-Err-read-sentence.ensures.same_cells ∙ l.invariant.1 ∙ c.in-Ok.ensures.same_cells;
+      same_cells = c.in-Err-read_sentence.ensures.same_cells ∙ l.invariant.1 ∙ c.in-Ok.ensures.same_cells;
       loads = record {
         first_bad =
-            subst (λ (n : ℕ). BadLine k n text c.in-Err-read-sentence.refusal l.line) over
-            (subst (λ (i : ℕ). BadLine k sized.cells text c.in-Err-read-sentence.refusal i) (sym l.invariant.2) bad);
+            subst (λ (n : ℕ). BadLine k n text c.in-Err-read_sentence.refusal l.line) over
+            (subst (λ (i : ℕ). BadLine k sized.cells text c.in-Err-read_sentence.refusal i) (sym l.invariant.2) bad);
         over = ap (λ b. b.cells) read.1 ∙ l.invariant.0.over ∙ over;
       };
     }
 
-pub overflow-add-line : goal.overflow-add-line
-overflow-add-line g c = omega (arith, c.in-Ok-read-sentence.ensures.reads.shorter, c.loop-rest.invariant.3)
+pub overflow_add-line : goal.overflow_add-line
+overflow_add-line g c = omega (arith, c.in-Ok-read_sentence.ensures.reads.shorter, c.loop-rest.invariant.3)
 
 pub loop-rest-smaller : goal.loop-rest-smaller
-loop-rest-smaller g c = c.in-Ok-read-sentence.ensures.reads.shorter
+loop-rest-smaller g c = c.in-Ok-read_sentence.ensures.reads.shorter
 
 pub loop-rest-preserved : goal.loop-rest-preserved
 loop-rest-preserved g c =
     let k = g.L.Label.kind in let l = c.loop-rest in
-    let read = c.in-Ok-read-sentence.ensures.reads in
-    let long : length (contents c.read-sentence.new.book).sentences ≡ length (contents l.book).sentences + 1 =
+    let read = c.in-Ok-read_sentence.ensures.reads in
+    let long : length (contents c.read_sentence.new.book).sentences ≡ length (contents l.book).sentences + 1 =
     ap (λ b. length b.sentences) read.entered.book ∙ length_push (contents l.book).sentences read.entered.sentence in (
-      so_far_more k (contents c.read-sizes.new.book).cells c.args.text.now l.rest.now (contents l.book) l.invariant.0
-          c.in-Ok-read-sentence.more.now (contents c.read-sentence.new.book) read,
-      c.in-Ok-read-sentence.ensures.same_cells ∙ l.invariant.1,
+      so_far_more k (contents c.read_sizes.new.book).cells c.args.text.now l.rest.now (contents l.book) l.invariant.0
+          c.in-Ok-read_sentence.more.now (contents c.read_sentence.new.book) read,
+      c.in-Ok-read_sentence.ensures.same_cells ∙ l.invariant.1,
       omega (arith, long, l.invariant.2),
       omega (arith, read.shorter, l.invariant.3),
     )
@@ -55,7 +55,7 @@ loop-rest-preserved g c =
 pub returns : goal.returns
 returns g c =
     let k = g.L.Label.kind in let l = c.loop-rest in
-    let sized = contents c.read-sizes.new.book in
+    let sized = contents c.read_sizes.new.book in
     record {
       same_cells = l.invariant.1 ∙ c.in-Ok.ensures.same_cells;
       loads =

@@ -5,8 +5,8 @@ use Rattle.texts.specs.Parts.{unlike, unfit}
 use Rattle.texts.proofs.Rows.{line_some}
 use Rattle.texts.proofs.read.read_sentence.Goals as goal
 
-pub returns-in-default : goal.returns-in-default
-returns-in-default g c = record { same_cells = refl; reads = (unlike c.in-default.ensures, refl) }
+pub returns-in_default : goal.returns-in_default
+returns-in_default g c = record { same_cells = refl; reads = (unlike c.in_default.ensures, refl) }
 
 pub returns-in-Ok : goal.returns-in-Ok
 returns-in-Ok g c =

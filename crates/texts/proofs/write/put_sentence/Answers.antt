@@ -7,15 +7,15 @@ use Rattle.texts.proofs.write.put_sentence.Goals as goal
 pub returns : goal.returns
 returns g c =
     let s = c.args.sentence in
-    let form = c.put-field-form in
-    let first = c.put-field-first in
-    let second = c.put-field-second in
-    let role = c.put-field-role in
-    let third = c.put-field-third in
-    let out = c.put-field.new.out in
-    let end = c.put-field.result in
+    let form = c.put_field-form in
+    let first = c.put_field-first in
+    let second = c.put_field-second in
+    let role = c.put_field-role in
+    let third = c.put_field-third in
+    let out = c.put_field.new.out in
+    let end = c.put_field.result in
     let number = g.L.Label.kind.number s.label in
-    let last = subst (λ n. Puts third.new.out third.result (values n []) end out) c.number.ensures c.put-field.ensures in
+    let last = subst (λ n. Puts third.new.out third.result (values n []) end out) c.number.ensures c.put_field.ensures in
     then_field c.args.out.now form.new.out out s.form 32 (values s.first (s.second ∷ (s.role ∷ (s.third ∷ (number ∷ [])))))
     c.args.at form.result end form.ensures
     (then_field form.new.out first.new.out out s.first 32 (values s.second (s.role ∷ (s.third ∷ (number ∷ []))))

@@ -5,21 +5,21 @@ use Rattle.texts.proofs.write.put_sentences.Goals as goal
 
 pub loop-sentence-init : goal.loop-sentence-init
 loop-sentence-init g c =
-    let header = c.put-bytes-next in
+    let header = c.put_bytes-next in
     puts_no_more c.args.out.now header.new.out sentences_header c.args.at header.result header.ensures
 
 pub loop-sentence-preserved : goal.loop-sentence-preserved
 loop-sentence-preserved g c =
-    let header = c.put-bytes-next in
+    let header = c.put_bytes-next in
     let l = c.loop-sentence in
-    let line = c.put-sentence-next in
+    let line = c.put_sentence-next in
     let s = c.sentence-item in
     puts_more (λ s. sentence_line (numbered g.L.Label.kind s)) header.new.out l.out line.new.out c.args.sentences.now
     l.sentence-index s.result header.result l.next line.result c.loop-sentence-test.true s.is l.invariant line.ensures
 
 pub returns : goal.returns
 returns g c =
-    let header = c.put-bytes-next in
+    let header = c.put_bytes-next in
     let l = c.loop-sentence in
     let k = g.L.Label.kind in
     let ss = c.args.sentences.now in

@@ -31,7 +31,7 @@ text_written k z y ss xs old mid new r t sizes sentences p q =
 pub returns : goal.returns
 returns g c =
     let book = contents c.args.book.now in
-    let sizes = c.put-sizes-next in
-    let sentences = c.put-sentences in
+    let sizes = c.put_sizes-next in
+    let sentences = c.put_sentences in
     text_written g.L.Label.kind book.sizes c.sizes.result book.sentences c.sentences.result.now c.args.out.now sizes.new.out
     sentences.new.out sizes.result sentences.result c.sizes.ensures c.sentences.ensures sizes.ensures sentences.ensures

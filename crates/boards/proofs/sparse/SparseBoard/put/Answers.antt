@@ -11,12 +11,12 @@ returns-in-Some g c =
     let added = c.args.added in
     let at = c.in-Some.at in
     let first = c.in-Some.ensures in
-    let new = c.join-entry.new.entries in
+    let new = c.join_entry.new.entries in
     let inside : place < board.size = omega arith in
     record {
       kept = record {
-        count_fits = join_fits k laws board c.requires place added inside at first new c.join-entry.ensures;
-        apart = join_apart k laws board c.requires place added inside at first new c.join-entry.ensures;
+        count_fits = join_fits k laws board c.requires place added inside at first new c.join_entry.ensures;
+        apart = join_apart k laws board c.requires place added inside at first new c.join_entry.ensures;
       };
-      put = put_join k laws board c.requires place added inside at first new c.join-entry.ensures;
+      put = put_join k laws board c.requires place added inside at first new c.join_entry.ensures;
     }

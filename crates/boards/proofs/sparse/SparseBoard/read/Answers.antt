@@ -16,7 +16,7 @@ pub returns-in-Some : goal.returns-in-Some
 returns-in-Some g c =
     let board = c.args.self.now in
     record {
-      the_label = label_in_use g.L.Label.kind board.entries.now board.used c.in-Some.at c.args.place c.entry-label.result c.requires.count_fits c.in-Some.ensures c.entry-label.ensures;
+      the_label = label_in_use g.L.Label.kind board.entries.now board.used c.in-Some.at c.args.place c.entry_label.result c.requires.count_fits c.in-Some.ensures c.entry_label.ensures;
       none_past_the_size = λ past. absurd (omega (arith, past));
     }
 

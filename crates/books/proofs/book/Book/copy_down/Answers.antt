@@ -11,8 +11,8 @@ next_is g c =
     c.index-sentences-at.is ∙ ap (λ l. get_or l (c.args.at + 1) next) c.sentences.ensures
     ∙ get_or-take c.args.self.now.count c.args.self.now.cells.now (c.args.at + 1) next c.requires
 
-pub invariant-of-self : goal.invariant-of-self
-invariant-of-self g c =
+pub invariant_of-self : goal.invariant_of-self
+invariant_of-self g c =
     let b = c.args.self.now in
     (sound_copied b.cells.now b.count b.sizes b.sound c.args.at c.index-sentences-at.result c.requires (next_is g c), tt)
 

@@ -8,7 +8,7 @@ use Rattle.books.proofs.book.Book.withdraw.Goals as goal
 pub loop-at-preserved : goal.loop-at-preserved
 loop-at-preserved g c =
     let i = c.loop-at.invariant in
-    let e = c.copy-down.ensures in
+    let e = c.copy_down.ensures in
     let d = e.copied in
     let b = c.args.self.now in
     let fits = sound_fits b.cells.now b.count b.sizes b.sound in
@@ -20,8 +20,8 @@ loop-at-preserved g c =
     (length-set cells c.loop-at.at d.next) in
     (e.same_cells ∙ i.0, subst (λ l. Shifted old l c.args.number (c.loop-at.at + 1)) (sym d.cells) more, d.count ∙ i.2, d.sizes ∙ i.3)
 
-pub invariant-of-self : goal.invariant-of-self
-invariant-of-self g c =
+pub invariant_of-self : goal.invariant_of-self
+invariant_of-self g c =
     let b = c.loop-at.self in
     let count = c.loop-at.invariant.2 in
     (sound_fewer b.cells.now b.count b.sizes b.sound (c.args.self.now.count - 1) (omega (arith, count)), tt)
