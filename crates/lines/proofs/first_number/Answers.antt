@@ -9,7 +9,7 @@ use Rattle.std.proofs.lemmas.Bool.Decides.{Decides-eqb}
 pub returns-in_err-field : goal.returns-in_err-field
 returns-in_err-field c =
     rw c.from_residual.ensures
-    (λ n rest small off e. strip_prefix_is c.args.text.now (32 ∷ []) None c.in_err-field.ensures.cases _ e)
+    (λ n rest small off e. strip_prefix_is Decides-eqb c.args.text.now (32 ∷ []) None c.in_err-field.ensures.cases _ e)
 
 pub returns-in_err-value : goal.returns-in_err-value
 returns-in_err-value c =

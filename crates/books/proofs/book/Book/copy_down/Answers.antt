@@ -14,7 +14,7 @@ next_is g c =
 pub invariant_of-self : goal.invariant_of-self
 invariant_of-self g c =
     let b = c.args.self.now in
-    (sound_copied b.cells.now b.count b.sizes b.sound c.args.at c.index-sentences-at.result c.requires (next_is g c), tt)
+    record { sound = sound_copied b.cells.now b.count b.sizes b.sound c.args.at c.index-sentences-at.result c.requires (next_is g c) }
 
 pub returns-then-at-self : goal.returns-then-at-self
 returns-then-at-self g c =

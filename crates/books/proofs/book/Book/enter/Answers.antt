@@ -6,7 +6,7 @@ use Rattle.books.proofs.book.Book.enter.Goals as goal
 pub invariant_of-self : goal.invariant_of-self
 invariant_of-self g c =
     let b = c.args.self.now in
-    (sound_entered b.cells.now b.count b.sizes b.sound c.args.sentence c.if-not-is_well_formed.ensures c.if-count-self.false, tt)
+    record { sound = sound_entered b.cells.now b.count b.sizes b.sound c.args.sentence c.if-not-is_well_formed.ensures c.if-count-self.false }
 
 pub returns : goal.returns
 returns g c =

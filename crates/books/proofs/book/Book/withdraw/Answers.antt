@@ -24,7 +24,7 @@ pub invariant_of-self : goal.invariant_of-self
 invariant_of-self g c =
     let b = c.loop-at.self in
     let count = c.loop-at.invariant.2 in
-    (sound_fewer b.cells.now b.count b.sizes b.sound (c.args.self.now.count - 1) (omega (arith, count)), tt)
+    record { sound = sound_fewer b.cells.now b.count b.sizes b.sound (c.args.self.now.count - 1) (omega (arith, count)) }
 
 pub returns : goal.returns
 returns g c =
