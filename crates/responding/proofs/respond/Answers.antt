@@ -15,8 +15,8 @@ returns-in-Ok g c =
       within = omega (arith, c.in-Ok.ensures.tried.within);
       prints =
           prints_listing g.L.Label.kind c.args.input.now before _ held
-          (cells_back book.count book.cells.now _ (let same = c.list_text.ensures.same_cells in let over = c.blank_book.ensures.over_them in search rules))
-          (contents c.blank_book.result) c.blank_book.ensures.blank c.in-Ok.count c.in-Ok.ensures.tried;
+          (cells_back book.count book.cells.now _ (let same = c.list_text.ensures.same_cells in let over = c.blank-book.ensures.over_them in search rules))
+          (contents c.blank-book.result) c.blank-book.ensures.blank c.in-Ok.count c.in-Ok.ensures.tried;
     }
 
 pub returns-in-Err : goal.returns-in-Err
@@ -29,7 +29,7 @@ returns-in-Err g c =
       within = omega (arith, c.put_refusal.ensures.within, c.list_text.auto.out);
       prints =
           prints_refusal g.L.Label.kind c.args.input.now before _ held
-          (cells_back book.count book.cells.now _ (let same = c.list_text.ensures.same_cells in let over = c.blank_book.ensures.over_them in search rules))
-          (contents c.blank_book.result) c.blank_book.ensures.blank c.in-Err.misread c.put_refusal.result c.put_refusal.new.out c.in-Err.ensures.tried
+          (cells_back book.count book.cells.now _ (let same = c.list_text.ensures.same_cells in let over = c.blank-book.ensures.over_them in search rules))
+          (contents c.blank-book.result) c.blank-book.ensures.blank c.in-Err.misread c.put_refusal.result c.put_refusal.new.out c.in-Err.ensures.tried
           c.put_refusal.ensures;
     }

@@ -11,7 +11,7 @@ pub loop-request-init : goal.loop-request-init
 loop-request-init g c = (
   c.clear.ensures.kept,
   refl,
-  reached_start g.L.Label.kind (account (contents c.blank_book.result) (g.B.Board.meaning c.clear.new.self)) _ c.blank_book.ensures.blank _
+  reached_start g.L.Label.kind (account (contents c.blank-book.result) (g.B.Board.meaning c.clear.new.self)) _ c.blank-book.ensures.blank _
       (ap (λ l. map said l) c.new-log.ensures.items),
 )
 
@@ -36,8 +36,8 @@ returns g c =
       kept = i.0;
       law =
           run g.L.Label.kind _ _ _ _ _ (account (contents c.loop-request.book) (g.B.Board.meaning c.loop-request.board))
-          (reached_all g.L.Label.kind (take_all c.loop-request.request-index c.args.requests.now (omega arith)) i.2) c.blank_book.ensures.blank c.clear.ensures.cleared
-          (cells_back c.loop-request.book.count c.loop-request.book.cells.now _ (let same = i.1 in let over = c.blank_book.ensures.over_them in search rules)) refl;
+          (reached_all g.L.Label.kind (take_all c.loop-request.request-index c.args.requests.now (omega arith)) i.2) c.blank-book.ensures.blank c.clear.ensures.cleared
+          (cells_back c.loop-request.book.count c.loop-request.book.cells.now _ (let same = i.1 in let over = c.blank-book.ensures.over_them in search rules)) refl;
     }
 
 pub returns-in_err-outcome : goal.returns-in_err-outcome
@@ -50,8 +50,8 @@ returns-in_err-outcome g c =
       kept = e.kept;
       law =
           law_err g.L.Label.kind _ _ c.args.requests.now _ c.from_residual.ensures.0 c.loop-request.request-index (logged c.loop-request.log)
-          (run g.L.Label.kind _ _ _ _ _ here (reached_at g.L.Label.kind e.step i.2) c.blank_book.ensures.blank c.clear.ensures.cleared
-          (cells_back book.count book.cells.now _ (let same = e.same_cells in let earlier = i.1 in let over = c.blank_book.ensures.over_them in search rules)) refl);
+          (run g.L.Label.kind _ _ _ _ _ here (reached_at g.L.Label.kind e.step i.2) c.blank-book.ensures.blank c.clear.ensures.cleared
+          (cells_back book.count book.cells.now _ (let same = e.same_cells in let earlier = i.1 in let over = c.blank-book.ensures.over_them in search rules)) refl);
     }
 
 pub returns-in_err-push : goal.returns-in_err-push
@@ -71,6 +71,6 @@ returns-in_err-push g c =
           law_err g.L.Label.kind _ _ requests _ c.from_residual-in_err-push.ensures.0 (c.loop-request.request-index + 1) (map said (log ++ (c.in_ok-outcome.outcome ∷ [])))
           (run g.L.Label.kind _ _ _ _ _ here
           (reached_again g.L.Label.kind _ (take c.loop-request.request-index requests) _ log _ _ item c.in_ok-outcome.outcome _ more refl i.2 e.step)
-          c.blank_book.ensures.blank c.clear.ensures.cleared
-          (cells_back book.count book.cells.now _ (c.in_err-push.cells-in-Break·-branch-2·1·own.given.1.1 (sym (e.same_cells ∙ (i.1 ∙ c.blank_book.ensures.over_them))))) refl);
+          c.blank-book.ensures.blank c.clear.ensures.cleared
+          (cells_back book.count book.cells.now _ (c.in_err-push.cells-in-Break-branch-2-1-own.given.1.1 (sym (e.same_cells ∙ (i.1 ∙ c.blank-book.ensures.over_them))))) refl);
     }

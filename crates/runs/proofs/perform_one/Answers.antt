@@ -56,10 +56,10 @@ returns-in-Read g c =
       step = made_by g.L.Label.kind g.L.Label.laws c.in-Read.is _ _ _ (c.read_text.result, contents c.read_text.new.book, refl, c.read_text.ensures.reads, refl);
     }
 
-pub returns-in_ok-out : goal.returns-in_ok-out
-returns-in_ok-out g c =
-    let old = c.deref-mut.ensures.value ∙ c.in_ok-out.ensures.items-if-clones-equal (λ y e. e) in
-    let new = with_items_is c.in_ok-out.out c.write_text-answer.new.out (c.write_text-answer.auto.out ∙ c.deref-mut.ensures.len) in
+pub returns-in_ok-out-in-Write : goal.returns-in_ok-out-in-Write
+returns-in_ok-out-in-Write g c =
+    let old = c.deref_mut.ensures.value ∙ c.in_ok-out-in-Write.ensures.items_if_clones_equal (λ y e. e) in
+    let new = with_items_is c.in_ok-out-in-Write.out c.write_text-answer.new.out (c.write_text-answer.auto.out ∙ c.deref_mut.ensures.len) in
     record {
       kept = c.requires;
       same_cells = refl;
@@ -68,10 +68,10 @@ returns-in_ok-out g c =
           (c.write_text-answer.result, _, refl, moved (λ old new. Writes g.L.Label.kind (contents c.args.book.now) old c.write_text-answer.result new) old new c.write_text-answer.ensures, refl);
     }
 
-pub returns-in_ok-out-2 : goal.returns-in_ok-out-2
-returns-in_ok-out-2 g c =
-    let old = c.deref-mut-in-List.ensures.value ∙ c.in_ok-out-2.ensures.items-if-clones-equal (λ y e. e) in
-    let new = with_items_is c.in_ok-out-2.out c.list-answer.new.out (c.list-answer.auto.out ∙ c.deref-mut-in-List.ensures.len) in
+pub returns-in_ok-out-in-List : goal.returns-in_ok-out-in-List
+returns-in_ok-out-in-List g c =
+    let old = c.deref_mut-in-List.ensures.value ∙ c.in_ok-out-in-List.ensures.items_if_clones_equal (λ y e. e) in
+    let new = with_items_is c.in_ok-out-in-List.out c.list-answer.new.out (c.list-answer.auto.out ∙ c.deref_mut-in-List.ensures.len) in
     record {
       kept = c.requires;
       same_cells = refl;
