@@ -80,9 +80,8 @@ def in_prose(text, names):
 def in_rt(line, names):
     at = line.find("//")
     code, rest = (line, "") if at < 0 else (line[:at], line[at:])
-    if '"' in code:
-        return code + in_prose(rest, names)
-    return respelled(code, names) + in_prose(rest, names)
+    parts = re.split(r'("(?:[^"\\]|\\.)*")', code)
+    return "".join(p if p.startswith('"') else respelled(p, names) for p in parts) + in_prose(rest, names)
 
 
 def rewrite(path, turn):

@@ -92,13 +92,13 @@ pub fn calls_of(script: &[u8]) -> &[u8]
 fn kind_line(line: &[u8]) -> Option<LabelKind>
     ensures { ReadsKind line.now result }
 {
-    if line == b"kind models" {
+    if line == b"kind models".as_slice() {
         return Some(LabelKind::Models);
     }
-    if line == b"kind grades" {
+    if line == b"kind grades".as_slice() {
         return Some(LabelKind::Grades);
     }
-    if line == b"kind whole" {
+    if line == b"kind whole".as_slice() {
         return Some(LabelKind::Whole);
     }
     None
@@ -142,7 +142,7 @@ pub fn request_of(line: &[u8]) -> Option<Request<'_, u64>>
     if let Some(room) = memory_line(line, b"list") {
         return Some(Request::List(room));
     }
-    if line == b"settle" {
+    if line == b"settle".as_slice() {
         return Some(Request::Settle);
     }
     let (node, concept) = label_line(line)?;
@@ -259,7 +259,7 @@ pub fn answer<L: Label>(heap: Global, outcome: &Outcome<L>) -> Result<String, Al
 
 // The line that tells a refused reading.
 fn misread_line(heap: Global, misread: Misread) -> Result<String, AllocError>
-    ensures { IfOk result (λ s. string_bytes s ≡ refused-line misread.refusal ++ (codes " line " ++ decimal misread.line)) }
+    ensures { IfOk result (λ s. string_bytes s ≡ refused_line misread.refusal ++ (codes " line " ++ decimal misread.line)) }
 {
     let number = misread.refusal.number();
     let line = misread.line;

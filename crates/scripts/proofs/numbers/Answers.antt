@@ -9,7 +9,7 @@ use Rattle.std.proofs.lemmas.Bool.Decides.{Decides-eqb}
 pub returns-in_err-rest : goal.returns-in_err-rest
 returns-in_err-rest c =
     rw c.from_residual.ensures
-    (λ ns each e. strip_prefix_is c.args.line.now c.args.word.now None c.in_err-rest.ensures.cases _ e)
+    (λ ns each e. strip_prefix_is Decides-eqb c.args.line.now c.args.word.now None c.in_err-rest.ensures.cases _ e)
 
 pub loop-at-init : goal.loop-at-init
 loop-at-init c =

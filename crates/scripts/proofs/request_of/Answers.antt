@@ -1,4 +1,5 @@
-use Rattle.std.proofs.Common.{◌≡◌, ℕ, List, None, codes}
+use Rattle.std.proofs.Common.{◌≡◌, ℕ, List, None, codes, subst, eqb}
+use Rattle.std.specs.Cmp.Lexicographic.{pointwise}
 use Rattle.std.proofs.lemmas.Slice.Eq.{slice_eq-Decides}
 use Rattle.std.proofs.lemmas.Bool.{both_ways}
 use Rattle.scripts.specs.Lines.{ReadsLine}
@@ -21,12 +22,9 @@ no_call line size enter withdraw write list settle label request.Settle fit e = 
 no_call line size enter withdraw write list settle label (request.Label x B) fit e = label (x, B) fit e
 no_call line size enter withdraw write list settle label (request.List room) fit e = list room fit e
 
-pub returns-then-eq : goal.returns-then-eq
-returns-then-eq c = (tt, (slice_eq-Decides Decides-eqb c.args.line.now (codes "settle") c.eq.result c.eq.ensures).0 c.if-eq.true)
-
 pub returns-in_err-node : goal.returns-in_err-node
 returns-in_err-node c =
     rw c.from_residual.ensures
     (no_call c.args.line.now c.in_default.ensures c.in_default-enter_line.ensures c.in_default-withdraw_line.ensures
-    c.in_default-memory_line.ensures c.in_default-memory_line-2.ensures (λ e. both_ways c.eq.result c.if-eq.false ((slice_eq-Decides Decides-eqb c.args.line.now (codes "settle") c.eq.result c.eq.ensures).1 e))
+    c.in_default-memory_line.ensures c.in_default-memory_line-2.ensures (λ e. both_ways c.eq.result c.if-eq.false ((slice_eq-Decides Decides-eqb c.args.line.now (codes "settle") c.eq.result (subst (λ (l : List ℕ). c.eq.result ≡ pointwise eqb c.args.line.now l) c.as_slice.ensures c.eq.ensures)).1 e))
     c.in_err-node.ensures)
