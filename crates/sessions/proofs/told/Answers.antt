@@ -2,7 +2,7 @@ use Rattle.std.proofs.Common.{◌≡◌, [], ◌∷◌, ◌++◌, string_bytes, 
 use Rattle.sessions.proofs.Telling.{answer_left, counted_as, told_call, told_no_label, told_no_call, told_all}
 use Rattle.sessions.proofs.told.Given.{Over}
 use Rattle.sessions.proofs.told.Goals as goal
-use Rattle.sessions.proofs.told.Goals.{in-Made+in_ok-line, in-NoSuchLabel+in_ok-line-2, in-BadLine+in_ok-line-3}
+use Rattle.sessions.proofs.told.Goals.{in-Made+in_ok-line-in-Made, in-NoSuchLabel+in_ok-line-in-NoSuchLabel, in-BadLine+in_ok-line-in-BadLine}
 
 pub bounds-log-next : goal.bounds-log-next
 bounds-log-next g c =
@@ -24,18 +24,18 @@ loop-reply-preserved g c =
     let replies = c.args.replies.now in
     let log = c.args.log.now in
     elim c.match-reply.branch [
-      | in-Made+in_ok-line w ↦
-          counted_as k replies log w.next_is
+      | in-Made+in_ok-line-in-Made w ↦
+          counted_as k replies log w.next-is
           (told_call k replies log l.reply-index l.next (string_bytes l.text) (string_bytes c.match-reply.line) _ w.index-log-next.result
-          c.loop-reply-test.true w.in-Made.is w.index-log-next.is (ap string_bytes w.line-is ∙ w.in_ok-line.ensures) (line_added g c) l.invariant)
-      | in-NoSuchLabel+in_ok-line-2 w ↦
-          counted_as k replies log w.next_is
+          c.loop-reply-test.true w.in-Made.is w.index-log-next.is (ap string_bytes w.line-is ∙ w.in_ok-line-in-Made.ensures) (line_added g c) l.invariant)
+      | in-NoSuchLabel+in_ok-line-in-NoSuchLabel w ↦
+          counted_as k replies log w.next-is
           (told_no_label k replies log l.reply-index l.next (string_bytes l.text) (string_bytes c.match-reply.line) _
-          c.loop-reply-test.true w.in-NoSuchLabel.is (ap string_bytes w.line-is ∙ w.in_ok-line-2.ensures) (line_added g c) l.invariant)
-      | in-BadLine+in_ok-line-3 w ↦
-          counted_as k replies log w.next_is
+          c.loop-reply-test.true w.in-NoSuchLabel.is (ap string_bytes w.line-is ∙ w.in_ok-line-in-NoSuchLabel.ensures) (line_added g c) l.invariant)
+      | in-BadLine+in_ok-line-in-BadLine w ↦
+          counted_as k replies log w.next-is
           (told_no_call k replies log l.reply-index l.next (string_bytes l.text) (string_bytes c.match-reply.line) _ _
-          c.loop-reply-test.true w.in-BadLine.is (ap string_bytes w.line-is ∙ w.in_ok-line-3.ensures) (line_added g c) l.invariant)
+          c.loop-reply-test.true w.in-BadLine.is (ap string_bytes w.line-is ∙ w.in_ok-line-in-BadLine.ensures) (line_added g c) l.invariant)
     ]
 
 pub returns : goal.returns
