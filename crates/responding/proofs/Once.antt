@@ -1,5 +1,5 @@
 -- Two answers to one input are the same. Assumes nothing.
-use Rattle.std.proofs.Common.{◌≡◌, ℕ, ◌<◌, ◌≤◌, Bool, true, false, cond, ltb, List, map, length, Ok, Err, Result, sym, refl, ap, ◌∙◌, subst, ap₂, arith, le-ltb, lt-ltb}
+use Rattle.std.proofs.Common.{◌≡◌, ℕ, ◌<◌, ◌≤◌, Bool, true, false, cond, ltb, List, map, length, Ok, Err, Result, sym, refl, ap, ◌∙◌, subst, arith, le-ltb, lt-ltb}
 use Rattle.labels.specs.Kind.{Kind, Lawful}
 use Rattle.terms.specs.declared.Sizes.{Sizes}
 use Rattle.terms.specs.declared.Sentence.{Sentence}
@@ -18,7 +18,7 @@ use Rattle.texts.proofs.Faults.{one_bad_line}
 use Rattle.listings.specs.Listing.{listing}
 use Rattle.listings.proofs.Same.{overfull_alike, listing_one}
 use Rattle.responding.specs.Answers.{Held, BookOfInput, LabelsOf, Answers, outside_reading, too_long, bad_line, too_few_places, too_many_labels, listing_too_long, listed}
-use Rattle.responding.specs.Once.{SameRoom, OneAnswer}
+use Rattle.responding.specs.Once.{OneAnswer}
 
 abbrev Answer : Type 0
 Answer = Result (List ℕ) Misread

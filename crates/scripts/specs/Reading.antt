@@ -1,5 +1,5 @@
 -- What it is to read numbers and a call off a line. Assumes nothing.
-use Rattle.std.specs.Prelude.{◌≡◌, ℕ, ◌+◌, ◌-◌, ◌≤◌, List, ◌++◌, length, take, Some, None, Option, ◌≢◌}
+use Rattle.std.specs.Prelude.{◌≡◌, ℕ, ◌≤◌, List, ◌++◌, length, take, Some, None, Option, ◌≢◌}
 use Rattle.std.specs.List.{AllZip}
 use Rattle.lines.specs.Numbers.{Reads}
 use Rattle.terms.specs.declared.Concept.{Concept}

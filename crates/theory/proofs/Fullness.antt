@@ -1,5 +1,5 @@
 -- Overfull says just that more of the settled labels are not none than the capacity. Assumes nothing.
-use Rattle.std.proofs.Common.{◌≡◌, ℕ, ◌-◌, ◌<◌, ◌≤◌, Bool, true, ◌&&◌, ltb, ◌↔◌, List, sym, subst, arith, ltb-true, lt-ltb}
+use Rattle.std.proofs.Common.{◌≡◌, ℕ, ◌<◌, ◌≤◌, Bool, true, ◌&&◌, ltb, ◌↔◌, List, sym, subst, arith, ltb-true, lt-ltb}
 use Rattle.std.proofs.lemmas.Bool.{and_parts, and_from}
 use Rattle.labels.specs.Kind.{Kind, Lawful, some_view}
 use Rattle.labels.proofs.Views.{view_of, not_none}

@@ -1,4 +1,4 @@
-use Rattle.std.proofs.Common.{◌≡◌, length, Ok, Err, arith, rules}
+use Rattle.std.proofs.Common.{Ok, Err, arith, rules}
 use Rattle.responding.proofs.Refusing.{pieces, line_short, line_written}
 use Rattle.responding.proofs.put_refusal.Goals as goal
 
