@@ -1,6 +1,6 @@
 -- The lines of a text, and where a byte stands in it. Assumes nothing.
 use Rattle.std.specs.Prelude.{◌≡◌, ℕ, zero, suc, ◌<◌, ◌≤◌, cond, ◌⊎◌, List, [], ◌∷◌, ◌++◌, length, ◌==◌, ◌≢◌, slice_index}
-use Rattle.std.specs.List.{AllByRecursion as All}
+use Rattle.std.specs.List.{AllByRecursion}
 
 -- where a byte first stands in a text, or the text's end
 pub record FirstAt (b : ℕ) (text : List ℕ) (at : ℕ) : Type 0 where
@@ -10,7 +10,7 @@ pub record FirstAt (b : ℕ) (text : List ℕ) (at : ℕ) : Type 0 where
 
 -- the byte does not stand in the text
 abbrev pub Without : ℕ → List ℕ → Type 0
-Without b text = All (λ x. x ≢ b) text
+Without b text = AllByRecursion (λ x. x ≢ b) text
 
 -- the text is empty, or begins with the byte
 abbrev pub SetOff : ℕ → List ℕ → Type 0

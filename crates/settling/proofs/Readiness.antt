@@ -1,7 +1,7 @@
 -- What a part of settling that is ready knows of its names, and what follows for its sentences one by one. Assumes nothing.
 use Rattle.std.proofs.Common.{◌≡◌, ℕ, zero, suc, ◌<◌, true, not, List, [], ◌∷◌, length, get_or, sym, refl, subst, inl, inr, arith}
 use Rattle.std.proofs.lemmas.Bool.{and_from, not_from_false, le-leb}
-use Rattle.std.specs.List.{AllByRecursion as All}
+use Rattle.std.specs.List.{AllByRecursion}
 use Rattle.terms.specs.declared.Sizes.{Sizes}
 use Rattle.terms.specs.declared.Sentence.{Sentence}
 use Rattle.terms.specs.Lists.{◌∈◌, each}
@@ -21,7 +21,7 @@ module _ {X : Type 0} where
   at_in (y ∷ xs) (suc i) x l e = inr (at_in xs i x (omega arith) e)
 
   -- what holds of each element holds of one that stands in the list
-  pub all_in : (P : X → Type 0) (xs : List X) → All P xs → (x : X) → x ∈ xs → P x
+  pub all_in : (P : X → Type 0) (xs : List X) → AllByRecursion P xs → (x : X) → x ∈ xs → P x
   all_in P [] a x m = absurd m
   all_in P (y ∷ xs) a x (inl e) = subst P (sym e) a.0
   all_in P (y ∷ xs) a x (inr m) = all_in P xs a.1 x m

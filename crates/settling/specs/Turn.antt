@@ -1,6 +1,6 @@
 -- What the parts of settling do to a board: the contracts of the private functions. Assumes nothing.
 use Rattle.std.specs.Prelude.{◌≡◌, ℕ, ◌+◌, ◌*◌, ◌/◌, ◌%◌, ◌<◌, ◌≤◌, Bool, true, false, not, T, List, [], ◌∷◌, Ok, Err, Result, ◌≢◌}
-use Rattle.std.specs.List.{AllByRecursion as All}
+use Rattle.std.specs.List.{AllByRecursion}
 use Rattle.labels.specs.Kind.{Kind, Covers}
 use Rattle.terms.specs.declared.Sizes.{Sizes}
 use Rattle.terms.specs.declared.Sentence.{Sentence}
@@ -90,7 +90,7 @@ module _ {L : Type 0} (k : Kind L) (z : Sizes) where
 
   -- what each sentence of a list asks of the labels
   abbrev pub ObeysAll : List (Sentence L) → (Fact → L) → Type 0
-  ObeysAll ss label = All (λ s. Obeys s label) ss
+  ObeysAll ss label = AllByRecursion (λ s. Obeys s label) ss
 
   -- a sentence applied at the node x, and through the link of x to y
   abbrev pub AppliedAt : Sentence L → (x : ℕ) → (old : Meaning L) → Result Bool Refusal → (new : Meaning L) → Type 0

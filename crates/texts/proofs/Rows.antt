@@ -1,6 +1,6 @@
 -- Lines of values: each is told from what follows it. Assumes nothing.
 use Rattle.std.proofs.Common.{◌≡◌, ℕ, ◌^◌, ◌<◌, ◌≤◌, true, ltb, List, [], ◌∷◌, ◌++◌, length, get_or, decimal, sym, refl, ap, ◌∙◌, arith}
-use Rattle.std.specs.List.{AllByRecursion as All}
+use Rattle.std.specs.List.{AllByRecursion}
 use Rattle.std.proofs.lemmas.List.{append_assoc, length-append}
 use Rattle.std.proofs.lemmas.Bool.{and_from, and_parts, ltb-true, lt-ltb}
 use Rattle.terms.specs.declared.Sizes.{Sizes}
@@ -52,7 +52,7 @@ no_later text rest v most m ms l q none n (k ∷ ns) more u h =
 
 -- two lines of as many values that begin one text are one line
 same_values :
-    (n m : ℕ) (ns ms t u : List ℕ) → length ns ≡ length ms → All (λ i. i < 2 ^ 64) (n ∷ ns) → All (λ i. i < 2 ^ 64) (m ∷ ms)
+    (n m : ℕ) (ns ms t u : List ℕ) → length ns ≡ length ms → AllByRecursion (λ i. i < 2 ^ 64) (n ∷ ns) → AllByRecursion (λ i. i < 2 ^ 64) (m ∷ ms)
     → values_onto n ns t ≡ values_onto m ms u → (◌≡◌ {A = List ℕ} (n ∷ ns) (m ∷ ms)) × (t ≡ u)
 same_values n m [] [] t u l p q h =
     let s = same_field n m 10 t u p.0 q.0 (omega arith) h in (ap (λ z. z ∷ []) s.0, s.1)

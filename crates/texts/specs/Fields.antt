@@ -2,7 +2,7 @@
 use Rattle.std.specs.Prelude.{◌≡◌, ℕ, ◌+◌, ◌-◌, ◌*◌, ◌<◌, ◌≤◌, Bool, true, List, [], ◌∷◌, ◌++◌, length, drop, Some, None, decimal, Option, ◌≢◌, slice_index}
 use Rattle.std.specs.Borrow.{Bor}
 use Rattle.std.specs.Int.{IsInRange}
-use Rattle.std.specs.List.{AllByRecursion as All}
+use Rattle.std.specs.List.{AllByRecursion}
 use Rattle.texts.specs.Texts.{Opens}
 
 -- the number that digits write after those of n
@@ -11,7 +11,7 @@ read_on n [] = n
 read_on n (c ∷ cs) = read_on (n * 10 + (c - 48)) cs
 
 abbrev pub OnlyDigits : List ℕ → Type 0
-OnlyDigits ds = All (λ c. IsInRange 48 57 c) ds
+OnlyDigits ds = AllByRecursion (λ c. IsInRange 48 57 c) ds
 
 -- so many digits stand at the start of the text, and this is their value
 pub record Run (text : List ℕ) (value count : ℕ) : Type 0 where
