@@ -13,9 +13,18 @@ import re
 import sys
 
 TOKEN = re.compile(r"[^\s(){}\[\],;.`«»\"]+")
-DECLARED = re.compile(r"^(?P<indent>\s*)(?:(?:abbrev|unfoldable|pub|data|record|axiom|package)\s+)*(?P<name>[^\s(){}\[\],;.:=]+)\s*(?P<params>(?:[({][^)}]*[)}]\s*)*)(?::(?!\S)|:$|=)")
+DECLARED = re.compile(
+    r"^(?P<indent>\s*)(?:(?P<marks>(?:(?:abbrev|unfoldable|pub|data|record|axiom|package)\s+)+)(?P<marked>[^\s(){}\[\],;.:=]+)"
+    r"|(?P<plain>[^\s(){}\[\],;.:=]+)\s*(?:[({][^)}]*[)}]\s*)*(?::(?!\S)|:$|=))"
+)
 # Lemmas that keep a dash: it joins two names, and without it they would fall together with words of the library.
 KEPT = {"bit-and", "bit-or"}
+
+# Names that no declaration shows: what an import is called here, and variables.
+OTHER = (
+    "nothing-more Made-board now-settled both-none not-smaller in-part not-nine kind-read book-read board-read words-read replies-are capacity-is "
+    "text-is line-is some-node some-role can-be can-be' over-old"
+).split()
 
 
 def antt_files(root):
@@ -41,7 +50,7 @@ def declared(path):
             m = DECLARED.match(line)
             if not m:
                 continue
-            name = m.group("name")
+            name = m.group("marked") or m.group("plain")
             if "-" not in name or not re.match(r"[A-Za-z]", name) or name.startswith("--"):
                 continue
             if answers and not m.group("indent") and re.search(r"\bgoal\.", line):
@@ -101,7 +110,7 @@ def main(argv):
     own = set()
     for p in files:
         own |= declared(p)
-    names = {n: new_name(n) for n in sorted(own - KEPT)}
+    names = {n: new_name(n) for n in sorted((own | set(OTHER)) - KEPT)}
     if "--list" in argv:
         by_new = {}
         for old, new in names.items():
@@ -118,6 +127,8 @@ def main(argv):
     changed = 0
     for p in files:
         skip = libraries(p)
+        if os.path.basename(p) in ("Answers.antt", "Invariants.antt"):
+            skip |= set(OTHER)
         changed += rewrite(p, lambda l: in_antt(l, names, skip))
     for folder, dirs, them in os.walk(os.path.join(root, "crates")):
         dirs[:] = [d for d in dirs if d not in ("out", "data")]

@@ -11,6 +11,6 @@ module _ {L : Type 0} (k : Kind L) (laws : Lawful k) where
   pub none_from_either : (a t : L) → k.number (k.either a t) ≡ 0 → k.number a ≡ 0
   none_from_either a t none =
       laws.same_number a k.none (λ v w.
-      let both-none = laws.same_views (k.either a t) k.none (none ∙ sym laws.none_number) v w ∙ laws.none_holds v w in
-      (or_parts (k.holds a v) (k.holds t v) (sym (laws.either_holds a t v w) ∙ both-none)).0 ∙ sym (laws.none_holds v w))
+      let both_none = laws.same_views (k.either a t) k.none (none ∙ sym laws.none_number) v w ∙ laws.none_holds v w in
+      (or_parts (k.holds a v) (k.holds t v) (sym (laws.either_holds a t v w) ∙ both_none)).0 ∙ sym (laws.none_holds v w))
       ∙ laws.none_number

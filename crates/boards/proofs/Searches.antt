@@ -17,9 +17,9 @@ module _ {L : Type 0} (es : List (Entry L)) (from to place : ℕ) (so_far : Smal
   }
 
   no_smaller_pushed : (from ≤ e.place → place ≤ e.place) → Smallest (es ++ (e ∷ [])) from to place
-  no_smaller_pushed not-smaller = record {
+  no_smaller_pushed not_smaller = record {
     up_to = so_far.up_to;
-    none_smaller = λ p l h. absent_push es e p (so_far.none_smaller p l h) (λ at. omega (arith, not-smaller (omega arith)));
+    none_smaller = λ p l h. absent_push es e p (so_far.none_smaller p l h) (λ at. omega (arith, not_smaller (omega arith)));
     is_entered = λ h. ((so_far.is_entered h).0, λ absent. (so_far.is_entered h).1 (absent_from_push es e place absent).0);
   }
 
@@ -35,8 +35,8 @@ module _ {L : Type 0} (es : List (Entry L)) (i from to place : ℕ) (inside : i 
       one_more (subst (Smallest (take i es ++ (get_or es i blank ∷ [])) from to) (sym is) (smaller_pushed (take i es) from to place so_far (get_or es i blank) low smaller))
 
   pub no_smaller_next : new ≡ place → (from ≤ here → place ≤ here) → Smallest (take (i + 1) es) from to new
-  no_smaller_next is not-smaller =
-      one_more (subst (Smallest (take i es ++ (get_or es i blank ∷ [])) from to) (sym is) (no_smaller_pushed (take i es) from to place so_far (get_or es i blank) not-smaller))
+  no_smaller_next is not_smaller =
+      one_more (subst (Smallest (take i es ++ (get_or es i blank ∷ [])) from to) (sym is) (no_smaller_pushed (take i es) from to place so_far (get_or es i blank) not_smaller))
 
 module _ {L : Type 0} (k : Kind L) (laws : Lawful k) (b : Sparse L) (from to place : ℕ) (found : Smallest (used_entries b) from to place) where
   none_before : (q : ℕ) → from ≤ q → q < place → some_view k (entered k (used_entries b) q) ≡ false

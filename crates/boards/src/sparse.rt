@@ -1,5 +1,5 @@
 // A sparse board: an entry for each place that is not none.
-ghost use Rattle.std.specs.Prelude.{◌≡◌, ◌<◌, ◌≤◌, length, get_or, take, slice_index_or, slice_set};
+ghost use Rattle.std.specs.Prelude.{◌≡◌, ◌<◌, ◌≤◌, length, take, slice_index_or, slice_set};
 ghost use Rattle.boards.specs.Meaning.{Made, Put};
 ghost use Rattle.boards.specs.Sparse.{blank_entry, used_entries, sparse_meaning, Absent, SparseKept, FirstEntry, joined_entry, Smallest};
 
@@ -141,7 +141,7 @@ fn find_entry<L: Label>(entries: &[Entry<L>], used: usize, place: u32) -> Option
 // The label of an entry.
 fn entry_label<L: Label>(entries: &[Entry<L>], at: usize) -> L
     requires { at < length entries.now }
-    ensures { (blank : Entry L) → result ≡ (get_or entries.now at blank).label }
+    ensures { (blank : Entry L) → result ≡ (slice_index_or entries.now at blank).label }
 {
     entries[at].label
 }

@@ -35,8 +35,8 @@ module _ {X : Type 0} (old new : List X) (from to : ℕ) (so : Shifted old new f
       let less = length-remove (take count old) from (omega (arith, whole)) in
       same_lists (take (count - 1) new) (remove (take count old) from) (omega (arith, less, part, whole))
       (λ j d h.
-      let in-part : j < count - 1 = omega (arith, part) in
-      get_or-take (count - 1) new j d in-part ∙ ⊎_elim
+      let in_part : j < count - 1 = omega (arith, part) in
+      get_or-take (count - 1) new j d in_part ∙ ⊎_elim
       (λ (p : j < from). so.below j d p ∙ sym (get_or-remove_below (take count old) from d j p (omega (arith, whole)) ∙ get_or-take count old j d (omega arith)))
       (λ (p : from ≤ j). so.moved j d p (omega arith) ∙ sym (get_or-remove_above (take count old) from d j p (omega (arith, whole)) ∙ get_or-take count old (j + 1) d (omega arith)))
       (cases_lt j from))

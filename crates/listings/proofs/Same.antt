@@ -10,11 +10,11 @@ use Rattle.terms.specs.Places.{nodes, places, place, member}
 use Rattle.terms.specs.Sentences.{holdable}
 use Rattle.terms.proofs.Counting.{count_longer}
 use Rattle.terms.proofs.Placing.{at_place, within_range}
-use Rattle.theory.specs.Rules.{One-settled, Overfull}
+use Rattle.theory.specs.Rules.{OneSettled, Overfull}
 use Rattle.theory.proofs.Fullness.{settling}
 use Rattle.theory.proofs.Names.{sound_book}
 use Rattle.boards.specs.Meaning.{Meaning}
-use Rattle.settling.specs.Settled.{label_on, Settled-board, Brought}
+use Rattle.settling.specs.Settled.{label_on, SettledBoard, Brought}
 use Rattle.texts.specs.Lines.{numbered}
 use Rattle.texts.proofs.Relabelled.{least_alike}
 use Rattle.listings.specs.Listing.{label_line, line_for, node_lines, listing, listing_header}
@@ -35,10 +35,10 @@ module _ {L : Type 0} (k : Kind L) where
 
   module _ (laws : Lawful k) where
     module _ (z : Sizes) (cells : ℕ) (ss : List (Sentence L)) (can_be : holdable cells z ss ≡ true) where
-      one : One-settled k z ss
+      one : OneSettled k z ss
       one = settling k laws z cells ss can_be
 
-      pub settled_same : (m n : Meaning L) → Settled-board k z ss m → Settled-board k z ss n → (p : ℕ) → k.number (n.label p) ≡ k.number (m.label p)
+      pub settled_same : (m n : Meaning L) → SettledBoard k z ss m → SettledBoard k z ss n → (p : ℕ) → k.number (n.label p) ≡ k.number (m.label p)
       settled_same m n h i p = go (dec_lt p (places z))
         where
           go : Dec (p < places z) → k.number (n.label p) ≡ k.number (m.label p)
@@ -58,19 +58,19 @@ module _ {L : Type 0} (k : Kind L) where
           omega (arith, many, more, held, e)
 
     -- a board settled for the one book is settled for the other
-    pub board_alike : (z : Sizes) (ss ts : List (Sentence L)) → map (numbered k) ts ≡ map (numbered k) ss → (m : Meaning L) → Settled-board k z ts m → Settled-board k z ss m
+    pub board_alike : (z : Sizes) (ss ts : List (Sentence L)) → map (numbered k) ts ≡ map (numbered k) ss → (m : Meaning L) → SettledBoard k z ts m → SettledBoard k z ss m
     board_alike z ss ts e m h = record { least = least_alike k laws z ss ts e (label_on k z m) h.least; none_past = h.none_past }
 
     -- labels that are too many for the one book are too many for the other
     pub overfull_alike :
         (z : Sizes) (cells : ℕ) (ss ts : List (Sentence L)) → holdable cells z ss ≡ true → holdable cells z ts ≡ true → map (numbered k) ts ≡ map (numbered k) ss
-        → (m : Meaning L) → Settled-board k z ss m → (capacity : ℕ) → Overfull k z ts capacity → Overfull k z ss capacity
-    overfull_alike z cells ss ts can_be can-be' e m h capacity over =
+        → (m : Meaning L) → SettledBoard k z ss m → (capacity : ℕ) → Overfull k z ts capacity → Overfull k z ss capacity
+    overfull_alike z cells ss ts can_be can_be' e m h capacity over =
         ((one z cells ss can_be).overfull_counts m.label h.least capacity).1
-        (((one z cells ts can-be').overfull_counts m.label (board_alike z ts ss (sym e) m h).least capacity).0 over)
+        (((one z cells ts can_be').overfull_counts m.label (board_alike z ts ss (sym e) m h).least capacity).0 over)
 
     -- the two books have one listing
     pub listing_one :
         (z : Sizes) (cells : ℕ) (ss ts : List (Sentence L)) → holdable cells z ss ≡ true → map (numbered k) ts ≡ map (numbered k) ss
-        → (m n : Meaning L) → Settled-board k z ss m → Settled-board k z ts n → listing k z n ≡ listing k z m
+        → (m n : Meaning L) → SettledBoard k z ss m → SettledBoard k z ts n → listing k z n ≡ listing k z m
     listing_one z cells ss ts can_be e m n h i = listing_same z m n (settled_same z cells ss can_be m n h (board_alike z ss ts e n i))

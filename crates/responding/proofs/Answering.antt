@@ -96,15 +96,15 @@ module _ {L : Type 0} (k : Kind L) (laws : Lawful k) (input : List ℕ) (before 
     module _ (m : Meaning L) (labels : LabelsOf k input before b m) (out : List ℕ) where
       listing_whole : (n : ℕ) → Fills (listing k b.sizes m) before.out (Ok n) out → Tried k input before (Ok n) (holding (marked b true) m out)
       listing_whole n h =
-          let over-old : out ≡ over (listing k b.sizes m) before.out = h.2 ∙ ap (λ i. listing k b.sizes m ++ drop i before.out) h.0 in
+          let over_old : out ≡ over (listing k b.sizes m) before.out = h.2 ∙ ap (λ i. listing k b.sizes m ++ drop i before.out) h.0 in
           record {
             bytes = listing k b.sizes m;
             answers =
-                subst (λ (x : List ℕ). Answers k input before (Ok (listing k b.sizes m)) (holding (marked b true) m x)) (sym over-old)
+                subst (λ (x : List ℕ). Answers k input before (Ok (listing k b.sizes m)) (holding (marked b true) m x)) (sym over_old)
                 (listed b m book labels (omega (arith, h.0, h.1)));
             long = h.0;
             within = h.1;
-            out = over-old;
+            out = over_old;
           }
 
       listing_cut : (e : Refusal) → Fills (listing k b.sizes m) before.out (Err e) out → Tried k input before (Err (outside_reading e)) (holding (marked b true) m out)

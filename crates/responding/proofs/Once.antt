@@ -8,7 +8,7 @@ use Rattle.terms.specs.Places.{places}
 use Rattle.terms.specs.Sentences.{holdable}
 use Rattle.theory.specs.Rules.{Overfull}
 use Rattle.boards.specs.Meaning.{Meaning}
-use Rattle.settling.specs.Settled.{Settled-board}
+use Rattle.settling.specs.Settled.{SettledBoard}
 use Rattle.books.specs.Contents.{Contents}
 use Rattle.texts.specs.declared.Misread.{Misread}
 use Rattle.texts.specs.Lines.{numbered, text_of}
@@ -33,7 +33,7 @@ module _ {L : Type 0} (k : Kind L) where
     few_places : size < places z → Judged size capacity room z ss (Err (outside_reading TooFewPlaces))
     many_labels : places z ≤ size → Overfull k z ss capacity → Judged size capacity room z ss (Err (outside_reading BoardFull))
     labelled :
-        (m : Meaning L) → places z ≤ size → (Overfull k z ss capacity → ⊥) → Settled-board k z ss m
+        (m : Meaning L) → places z ≤ size → (Overfull k z ss capacity → ⊥) → SettledBoard k z ss m
         → Judged size capacity room z ss (fitted room (listing k z m))
 
   -- an input, by what it is
@@ -78,7 +78,7 @@ module _ {L : Type 0} (k : Kind L) where
 
   module _ (laws : Lawful k) where
     -- two judgements of books whose sentences have the same numbers
-    module _ (size capacity room cells : ℕ) (z : Sizes) (ss ts : List (Sentence L)) (can_be : holdable cells z ss ≡ true) (can-be' : holdable cells z ts ≡ true)
+    module _ (size capacity room cells : ℕ) (z : Sizes) (ss ts : List (Sentence L)) (can_be : holdable cells z ss ≡ true) (can_be' : holdable cells z ts ≡ true)
         (e : map (numbered k) ts ≡ map (numbered k) ss) where
       one_judgement : (a b : Answer) → Judged size capacity room z ss a → Judged size capacity room z ts b → b ≡ a
       one_judgement a b (few_places h) (few_places i) = refl
@@ -86,9 +86,9 @@ module _ {L : Type 0} (k : Kind L) where
       one_judgement a b (few_places h) (labelled n i f t) = absurd (omega arith)
       one_judgement a b (many_labels h o) (few_places i) = absurd (omega arith)
       one_judgement a b (many_labels h o) (many_labels i p) = refl
-      one_judgement a b (many_labels h o) (labelled n i f t) = absurd (f (overfull_alike k laws z cells ts ss can-be' can_be (sym e) n t capacity o))
+      one_judgement a b (many_labels h o) (labelled n i f t) = absurd (f (overfull_alike k laws z cells ts ss can_be' can_be (sym e) n t capacity o))
       one_judgement a b (labelled m h f s) (few_places i) = absurd (omega arith)
-      one_judgement a b (labelled m h f s) (many_labels i p) = absurd (f (overfull_alike k laws z cells ss ts can_be can-be' e m s capacity p))
+      one_judgement a b (labelled m h f s) (many_labels i p) = absurd (f (overfull_alike k laws z cells ss ts can_be can_be' e m s capacity p))
       one_judgement a b (labelled m h f s) (labelled n i g t) = ap (fitted room) (listing_one k laws z cells ss ts can_be e m n s t)
 
     one_stage : (cells size capacity room : ℕ) (input : List ℕ) (a b : Answer) → Stage cells size capacity room input a → Stage cells size capacity room input b → b ≡ a

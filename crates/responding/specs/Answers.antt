@@ -8,7 +8,7 @@ use Rattle.terms.specs.Places.{places}
 use Rattle.theory.specs.Entailed.{LabelsHoldWhatEveryWorldSays}
 use Rattle.theory.specs.Rules.{Overfull}
 use Rattle.boards.specs.Meaning.{Meaning, Cleared}
-use Rattle.settling.specs.Settled.{label_on, Settled-board}
+use Rattle.settling.specs.Settled.{label_on, SettledBoard}
 use Rattle.books.specs.Contents.{Contents, blank_book, marked}
 use Rattle.texts.specs.declared.Misread.{Misread}
 use Rattle.texts.specs.Lines.{misread_line}
@@ -64,7 +64,7 @@ module _ {L : Type 0} (k : Kind L) (input : List ℕ) (before : Held L) where
     pub capacity : m.capacity ≡ before.board.capacity
     pub enough : places b.sizes ≤ m.size
     pub few : Overfull k b.sizes b.sentences m.capacity → ⊥
-    pub settled : Settled-board k b.sizes b.sentences m
+    pub settled : SettledBoard k b.sizes b.sentences m
     pub meant : LabelsHoldWhatEveryWorldSays k b.sizes b.sentences (label_on k b.sizes m)
 
   -- the listing of the labels of the book that the input is, or the first refusal in this order; and what memory then holds

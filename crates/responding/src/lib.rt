@@ -101,15 +101,15 @@ pub fn printed_bytes_are_determined<L: Label>() -> u8
 }
 
 // Fills memory from a stream, up to the end of either. Answers the number of bytes.
-pub fn read_input<R: Read>(stream: &mut R, memory: &mut [u8]) -> io::Result<usize>
-    ensures { IfOk result (λ n. n ≤ length memory.new) }
+pub fn read_input<R: Read>(stream: &mut R, into: &mut [u8]) -> io::Result<usize>
+    ensures { IfOk result (λ n. n ≤ length into.new) }
 {
     let mut count = 0;
     for _ in 0..u64::MAX {
-        if count >= memory.len() {
+        if count >= into.len() {
             return Ok(count);
         }
-        let got = stream.read(&mut memory[count..])?;
+        let got = stream.read(&mut into[count..])?;
         if got == 0 {
             return Ok(count);
         }

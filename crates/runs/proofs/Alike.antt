@@ -111,7 +111,7 @@ module _ {L : Type 0} (k : Kind L) where
 
     -- settling books that nothing tells apart, on boards that nothing tells apart
     module _ (b b' : Contents L) (books : SameBook k b b') (can_be : holdable b.cells b.sizes b.sentences ≡ true)
-        (can-be' : holdable b'.cells b.sizes b'.sentences ≡ true) (old old' : Meaning L) (alike : Same k old old') (c d : Contents L) (m n : Meaning L) where
+        (can_be' : holdable b'.cells b.sizes b'.sentences ≡ true) (old old' : Meaning L) (alike : Same k old old') (c d : Contents L) (m n : Meaning L) where
       abbrev Left : Result (Unit {0}) Refusal → Result (Unit {0}) Refusal → Type 0
       Left r s = (r ≡ s) × SameBook k c d × Same k m n
 
@@ -143,7 +143,7 @@ module _ {L : Type 0} (k : Kind L) where
       )
       brought (Ok u) (Err f) room h i =
           absurd
-          (not_both k laws b.sizes b'.cells b'.sentences can-be' old m old'.capacity room alike.capacity
+          (not_both k laws b.sizes b'.cells b'.sentences can_be' old m old'.capacity room alike.capacity
           (brought_alike b.sizes b'.sentences b.sentences (sym books.sentences) old m h.1) i.1.1.too_many)
       brought (Err e) (Ok v) room h i =
           let size = alike.size in
@@ -236,8 +236,8 @@ module _ {L : Type 0} (k : Kind L) where
         (subst (λ (t : List ℕ). Fills t (replicate room 0) h.0 h.1) (text_same a.book b.book alike.book) h.3) in
         ends a.book b.book a.board b.board g.2 h.2 (equal (ap₂ bytes l.0 l.1)) g.4 h.4 alike.book alike.board
     step a b t u alike request.Settle o p c d g h =
-        let can-be' = subst (λ (z : Sizes). holdable b.book.cells z b.book.sentences ≡ true) alike.book.sizes u.book in
-        let l = settles_one laws a.book b.book alike.book t.book can-be' a.board b.board alike.board g.1 h.1 g.2 h.2 g.0 h.0 g.4 h.4 in
+        let can_be' = subst (λ (z : Sizes). holdable b.book.cells z b.book.sentences ≡ true) alike.book.sizes u.book in
+        let l = settles_one laws a.book b.book alike.book t.book can_be' a.board b.board alike.board g.1 h.1 g.2 h.2 g.0 h.0 g.4 h.4 in
         ends g.1 h.1 g.2 h.2 g.3 h.3 (equal (ap done l.0)) g.5 h.5 l.1 l.2
     step a b t u alike (request.Label x B) o p c d g h =
         let e = alike.book in

@@ -1,5 +1,5 @@
 -- The account of a list of calls: what book and board are, and what a call answers. Assumes nothing.
-use Rattle.std.specs.Prelude.{◌≡◌, ℕ, List, vec_items, Result}
+use Rattle.std.specs.Prelude.{◌≡◌, ℕ, List, Result}
 use Rattle.labels.specs.Kind.{Kind}
 use Rattle.terms.specs.declared.Refusal.{Refusal}
 use Rattle.boards.specs.Meaning.{Meaning, Cleared}
@@ -34,4 +34,4 @@ abbrev pub said : {L : Type 0} → Outcome L → Answer L
 said (Done r) = done r
 said (Read r) = read r
 said (Label r) = labelled r
-said (Bytes r memory) = bytes r (vec_items memory)
+said (Bytes r memory) = bytes r memory.items

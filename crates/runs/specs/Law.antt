@@ -1,14 +1,14 @@
 -- The whole promise: what each call of a list gives, and what its answers mean in every world. Assumes nothing.
-use Rattle.std.specs.Prelude.{◌≡◌, ℕ, ◌<◌, true, ◌↔◌, List, [], ◌∷◌, map, length, take, replicate, Ok, Err, vec_items, Result, Vec}
+use Rattle.std.specs.Prelude.{◌≡◌, ℕ, ◌<◌, true, ◌↔◌, List, [], ◌∷◌, map, length, take, replicate, Ok, Err, Result, Vec}
 use Rattle.labels.specs.Kind.{Kind}
 use Rattle.terms.specs.declared.Sentence.{Sentence}
 use Rattle.terms.specs.declared.Refusal.{Refusal}
 use Rattle.terms.specs.Sentences.{holdable}
 use Rattle.theory.specs.Rules.{in_view}
-use Rattle.theory.specs.Description.{name, done as nothing-more}
+use Rattle.theory.specs.Description.{name, done as nothing_more}
 use Rattle.theory.specs.Entailed.{EveryWorldSaysYes}
 use Rattle.boards.specs.Meaning.{Meaning}
-use Rattle.settling.specs.Settled.{Settled-board}
+use Rattle.settling.specs.Settled.{SettledBoard}
 use Rattle.books.specs.Contents.{Contents, Sized, Entered, Withdrawn}
 use Rattle.books.specs.Settling.{SettlesBook, Labelled}
 use Rattle.texts.specs.declared.Misread.{Misread}
@@ -42,13 +42,13 @@ module _ {L : Type 0} (k : Kind L) where
   -- an account is true: its book can be, and a settled book's board has its settled labels
   pub record TrueAccount (a : Account L) : Type 0 where
     pub book : holdable a.book.cells a.book.sizes a.book.sentences ≡ true
-    pub board : a.book.settled ≡ true → Settled-board k a.book.sizes a.book.sentences a.board
+    pub board : a.book.settled ≡ true → SettledBoard k a.book.sizes a.book.sentences a.board
 
   -- the label answered holds a view exactly when the membership is so in every world that keeps that view's sentences then in the book
   abbrev pub LabelHoldsWhatEveryWorldSays : Contents L → (x B : ℕ) → L → Type 0
   LabelHoldsWhatEveryWorldSays b x B l =
       (v : ℕ) → v < k.views
-      → (k.holds l v ≡ true) ↔ EveryWorldSaysYes b.sizes (in_view k v b.sentences) x (name B nothing-more)
+      → (k.holds l v ≡ true) ↔ EveryWorldSaysYes b.sizes (in_view k v b.sentences) x (name B nothing_more)
 
   -- what an answer means in the worlds
   abbrev pub Claims : Account L → Request L → Answer L → Type 0
@@ -83,7 +83,7 @@ memory cells board = record { cells = cells; board = board }
 
 -- what the outcomes of a log say
 abbrev pub logged : {L Z : Type 0} → Vec (Outcome L) Z → List (Answer L)
-logged log = map said (vec_items log)
+logged log = map said log.items
 
 -- the calls were made on a book and board made now, and gave these answers; memory is then as the last account says
 pub record Run {L : Type 0} (k : Kind L) (before : Memory L) (calls : List (Request L)) (answers : List (Answer L)) (after : Memory L) : Type 0 where

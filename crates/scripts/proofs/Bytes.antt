@@ -50,5 +50,5 @@ short_is final mid text refused memory number all line is nine =
 -- the text of any other refusal
 pub other_is :
     (final text refused memory : List ℕ) (number : ℕ) → final ≡ text → text ≡ refused → (number ≡ 9 → ⊥) → final ≡ refused ++ cond (eqb number 9) (10 ∷ encodes memory) []
-other_is final text refused memory number same is not-nine =
-    same ∙ is ∙ sym (append-nil refused) ∙ ap (λ l. refused ++ l) (sym (cond-false (eqb number 9) (10 ∷ encodes memory) [] (ne_eqb number 9 not-nine)))
+other_is final text refused memory number same is not_nine =
+    same ∙ is ∙ sym (append-nil refused) ∙ ap (λ l. refused ++ l) (sym (cond-false (eqb number 9) (10 ∷ encodes memory) [] (ne_eqb number 9 not_nine)))

@@ -1,7 +1,7 @@
 -- Lines that are noted, and calls that are made, are answered. Assumes nothing.
 use Rattle.std.proofs.Common.{◌≡◌, ℕ, suc, ◌<◌, List, [], ◌∷◌, ◌++◌, map, length, sym, refl, ap, ◌∙◌, subst, arith}
 use Rattle.labels.specs.Kind.{Kind}
-use Rattle.boards.specs.Meaning.{Meaning, Made as Made-board}
+use Rattle.boards.specs.Meaning.{Meaning, Made as MadeBoard}
 use Rattle.runs.specs.declared.Request.{Request}
 use Rattle.runs.specs.declared.Outcome.{Outcome}
 use Rattle.runs.specs.Account.{Account, Answer, said}
@@ -74,21 +74,21 @@ module _ {L : Type 0} (k : Kind L) where
       {before after : Memory L} {lines told : List ℕ} {replies replies' : List Reply} {requests calls : List (Request L)} {log log' : List (Outcome L)}
       → Noted k 5 lines replies requests → calls ≡ requests → Run k before calls (map said log) after → replies' ≡ replies → log' ≡ log
       → told ≡ told_lines k replies' (map said log') → AnswersFrom k before lines told
-  answers_from {before} {after} {lines} {told} {replies} {replies'} {requests} {calls} {log} {log'} noted calls_are run replies-are log_is told_is =
+  answers_from {before} {after} {lines} {told} {replies} {replies'} {requests} {calls} {log} {log'} noted calls_are run replies_are log_is told_is =
       record {
         requests = requests;
         answers = map said log;
         after = after;
         lines_told =
             subst (λ (t : List ℕ). Told k 5 lines requests (map said log) t)
-            (sym (told_is ∙ ap (λ l. told_lines k l (map said log')) replies-are ∙ ap (λ l. told_lines k replies (map said l)) log_is))
+            (sym (told_is ∙ ap (λ l. told_lines k l (map said log')) replies_are ∙ ap (λ l. told_lines k replies (map said l)) log_is))
             (lines_told noted (map said log) (answers_counted calls_are run));
         run = subst (λ (qs : List (Request L)). Run k before qs (map said log) after) calls_are run;
       }
 
   -- a board made of a size and a capacity by other names
-  pub made_as : {size size' capacity capacity' : ℕ} {m : Meaning L} → size ≡ size' → capacity ≡ capacity' → Made-board k size capacity m → Made-board k size' capacity' m
-  made_as size_is capacity-is h = record { has_size = h.has_size ∙ size_is; has_capacity = h.has_capacity ∙ capacity-is; none = h.none }
+  pub made_as : {size size' capacity capacity' : ℕ} {m : Meaning L} → size ≡ size' → capacity ≡ capacity' → MadeBoard k size capacity m → MadeBoard k size' capacity' m
+  made_as size_is capacity_is h = record { has_size = h.has_size ∙ size_is; has_capacity = h.has_capacity ∙ capacity_is; none = h.none }
 
   -- memory as the setup asks for it
   pub answers_in :

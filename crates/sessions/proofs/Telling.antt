@@ -48,7 +48,7 @@ module _ {L : Type 0} (k : Kind L) (replies : List Reply) (log : List (Outcome L
   pub told_call :
       (i next : ℕ) (text line text' : List ℕ) (o : Outcome L) → i < length replies → get_or replies i Made ≡ Made → o ≡ get_or log next o
       → line ≡ answer_line k (said o) → text' ≡ (text ++ line) ++ (10 ∷ []) → Telling i next text → Telling (i + 1) (next + 1) text'
-  told_call i next text line text' o lt is outcome line-is text-is h =
+  told_call i next text line text' o lt is outcome line_is text_is h =
       let reply = next_reply replies i Made lt is in
       let within = answer_left i next text lt is h in
       let answers : drop next log ≡ o ∷ drop (next + 1) log =
@@ -57,10 +57,10 @@ module _ {L : Type 0} (k : Kind L) (replies : List Reply) (log : List (Outcome L
       sym (ap calls_among reply) ∙ h.left ∙ ap length answers in
       record {
         whole =
-            line_told text (answer_line k (said o)) line text' _ _ _ line-is h.whole
+            line_told text (answer_line k (said o)) line text' _ _ _ line_is h.whole
             (ap (λ l. told_lines k l (map said (drop next log))) reply
             ∙ ap (λ l. told_lines k (Made ∷ drop (i + 1) replies) (map said l)) answers)
-            text-is;
+            text_is;
         left = omega arith;
         few = omega arith;
       }
@@ -69,12 +69,12 @@ module _ {L : Type 0} (k : Kind L) (replies : List Reply) (log : List (Outcome L
   pub told_no_label :
       (i next : ℕ) (text line text' : List ℕ) → i < length replies → get_or replies i Made ≡ NoSuchLabel
       → line ≡ refused_line refusal.NoSuchLabel → text' ≡ (text ++ line) ++ (10 ∷ []) → Telling i next text → Telling (i + 1) next text'
-  told_no_label i next text line text' lt is line-is text-is h =
+  told_no_label i next text line text' lt is line_is text_is h =
       let reply = next_reply replies i NoSuchLabel lt is in
       record {
         whole =
-            line_told text (refused_line refusal.NoSuchLabel) line text' _ _ _ line-is h.whole
-            (ap (λ l. told_lines k l (map said (drop next log))) reply) text-is;
+            line_told text (refused_line refusal.NoSuchLabel) line text' _ _ _ line_is h.whole
+            (ap (λ l. told_lines k l (map said (drop next log))) reply) text_is;
         left = sym (ap calls_among reply) ∙ h.left;
         few = h.few;
       }
@@ -83,12 +83,12 @@ module _ {L : Type 0} (k : Kind L) (replies : List Reply) (log : List (Outcome L
   pub told_no_call :
       (i next : ℕ) (text line text' : List ℕ) (number : ℕ) → i < length replies → get_or replies i Made ≡ BadLine number
       → line ≡ bad_line number → text' ≡ (text ++ line) ++ (10 ∷ []) → Telling i next text → Telling (i + 1) next text'
-  told_no_call i next text line text' number lt is line-is text-is h =
+  told_no_call i next text line text' number lt is line_is text_is h =
       let reply = next_reply replies i (BadLine number) lt is in
       record {
         whole =
-            line_told text (bad_line number) line text' _ _ _ line-is h.whole
-            (ap (λ l. told_lines k l (map said (drop next log))) reply) text-is;
+            line_told text (bad_line number) line text' _ _ _ line_is h.whole
+            (ap (λ l. told_lines k l (map said (drop next log))) reply) text_is;
         left = sym (ap calls_among reply) ∙ h.left;
         few = h.few;
       }

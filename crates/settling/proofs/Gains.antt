@@ -11,7 +11,7 @@ use Rattle.terms.specs.Lists.{count}
 use Rattle.terms.specs.Places.{places, place, Fact}
 use Rattle.terms.specs.Refusals.{After, Accepted}
 use Rattle.terms.proofs.Placing.{Within, within_range, range_within, place_below, place_same, at_place}
-use Rattle.theory.specs.Rules.{in_view, Derives, Settles-some, Overfull}
+use Rattle.theory.specs.Rules.{in_view, Derives, SettlesSome, Overfull}
 use Rattle.boards.specs.Meaning.{Meaning, occupied, no_room, Same, Joined, Put}
 use Rattle.settling.specs.Turn.{Justified, lacking}
 use Rattle.terms.proofs.Counting.{count_more, count_less, count_one_more, count_past}
@@ -140,7 +140,7 @@ module _ {L : Type 0} {k : Kind L} (laws : Lawful k) (z : Sizes) (ss : List (Sen
   none_past p l = not_from_true (eqb (k.number (old.label p)) 0) (eq-eqb (k.number (old.label p)) 0 (just.none_past p l))
 
   -- a place that is not none is that of a fact that follows
-  settles_some : 0 < z.concepts → (p : ℕ) → some_view k (old.label p) ≡ true → Settles-some k z ss p
+  settles_some : 0 < z.concepts → (p : ℕ) → some_view k (old.label p) ≡ true → SettlesSome k z ss p
   settles_some top p h =
       ⊎_elim
       (λ (l : p < places z).

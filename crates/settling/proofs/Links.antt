@@ -5,7 +5,7 @@ use Rattle.labels.specs.Kind.{Kind, Lawful, some_view}
 use Rattle.terms.specs.declared.Sizes.{Sizes}
 use Rattle.terms.specs.declared.Sentence.{Sentence}
 use Rattle.terms.specs.Places.{nodes, place, Fact, member, link}
-use Rattle.theory.proofs.Names.{Sound-book}
+use Rattle.theory.proofs.Names.{SoundBook}
 use Rattle.theory.proofs.Labels.{both_of}
 use Rattle.boards.specs.Meaning.{Meaning}
 use Rattle.settling.specs.Settled.{label_on}
@@ -13,7 +13,7 @@ use Rattle.settling.specs.Turn.{Turn, AtLink, AtNode}
 use Rattle.labels.proofs.Views.{not_none}
 use Rattle.settling.proofs.Turns.{turn_seen, turn_next, turn_as}
 
-module _ {L : Type 0} {k : Kind L} (laws : Lawful k) (z : Sizes) (s : Sentence L) (sound : Sound-book z (s ∷ [])) (x start : ℕ)
+module _ {L : Type 0} {k : Kind L} (laws : Lawful k) (z : Sizes) (s : Sentence L) (sound : SoundBook z (s ∷ [])) (x start : ℕ)
     (at : start ≡ place z (link x s.role 0)) where
   no_link : (m : Meaning L) (y : ℕ) → some_view k (m.label (start + y)) ≡ false → AtLink k z s x y (label_on k z m)
   no_link m y none v l h =

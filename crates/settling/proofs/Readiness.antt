@@ -8,7 +8,7 @@ use Rattle.terms.specs.Lists.{◌∈◌, each}
 use Rattle.terms.specs.Places.{outside_limits}
 use Rattle.terms.specs.Sentences.{well_formed}
 use Rattle.terms.proofs.Truths.{say, said}
-use Rattle.theory.proofs.Names.{Sound-book, sound_book}
+use Rattle.theory.proofs.Names.{SoundBook, sound_book}
 use Rattle.theory.proofs.Lists.{each_of}
 use Rattle.boards.specs.Meaning.{Meaning}
 use Rattle.settling.specs.Turn.{Ready, AllIn}
@@ -27,7 +27,7 @@ module _ {X : Type 0} where
   all_in P (y ∷ xs) a x (inr m) = all_in P xs a.1 x m
 
 module _ {L : Type 0} {z : Sizes} {ss : List (Sentence L)} {m : Meaning L} (ready : Ready z ss m) where
-  pub ready_sound : Sound-book z ss
+  pub ready_sound : SoundBook z ss
   ready_sound =
       sound_book (length ss) z ss
       (and_from (not (outside_limits z)) _ (not_from_false (outside_limits z) ready.within_limits)

@@ -18,7 +18,7 @@ module _ {L : Type 0} (k : Kind L) where
   label_on z m f = m.label (place z f)
 
   -- the board has the settled labels of these sentences, and none at the places past them
-  pub record Settled-board (z : Sizes) (ss : List (Sentence L)) (m : Meaning L) : Type 0 where
+  pub record SettledBoard (z : Sizes) (ss : List (Sentence L)) (m : Meaning L) : Type 0 where
     pub least : Least k z ss (label_on z m)
     pub none_past : (p : ℕ) → places z ≤ p → k.number (m.label p) ≡ 0
 
@@ -26,7 +26,7 @@ module _ {L : Type 0} (k : Kind L) where
   pub record Brought (z : Sizes) (ss : List (Sentence L)) (old new : Meaning L) : Type 0 where
     pub size : new.size ≡ old.size
     pub capacity : new.capacity ≡ old.capacity
-    pub board : Settled-board z ss new
+    pub board : SettledBoard z ss new
     pub holds_them : occupied k new ≤ old.capacity
 
   -- refused 8: more settled labels are not none than the capacity, and the board is left cleared

@@ -75,13 +75,13 @@ at_place z h p l = go (dec_lt p (nodes z * z.concepts))
         let split : n * (c + m * n) ≡ n * c + n * (m * n) = mul-add n c (m * n) in
         let assoc : n * m * n ≡ n * (m * n) = mul_assoc n m n in
         let few : q < n * m * n = omega (arith, split, assoc, l, k) in
-        let some-node : 0 < n = omega (arith, h) in
-        let low : q / n < n * m = (div-lt_iff_lt-mul some-node).1 few in
-        let some-role : 0 < m = role m n low in
+        let some_node : 0 < n = omega (arith, h) in
+        let low : q / n < n * m = (div-lt_iff_lt-mul some_node).1 few in
+        let some_role : 0 < m = role m n low in
         let back : q / n / m * m + q / n % m ≡ q / n = div-add-mod' (q / n) m in
         let whole : q / n * n + q % n ≡ q = div-add-mod' q n in (
           link (q / n / m) (q / n % m) (q % n),
-          ((div-lt_iff_lt-mul some-role).1 low, mod-lt (q / n) some-role, mod-lt q some-node),
+          ((div-lt_iff_lt-mul some_role).1 low, mod-lt (q / n) some_role, mod-lt q some_node),
           ap (λ a. n * c + a * n + q % n) back ∙ omega (arith, whole, k),
         )
       where

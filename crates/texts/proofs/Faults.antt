@@ -15,7 +15,7 @@ use Rattle.terms.proofs.Holding.{Holdable, holdable_parts}
 use Rattle.books.specs.Contents.{Contents, unsettled, one_concept, blank_book}
 use Rattle.texts.specs.declared.Misread.{Misread}
 use Rattle.texts.specs.Lines.{sizes_header, sizes_line, sentences_header, sentence_line, numbered, text_of, sizes_fit}
-use Rattle.texts.specs.Texts.{Opens, Good-so-far, Next-line, BadLine, no_sizes_header, no_sizes, sizes_outside, no_sentences_header, no_sentence, malformed, no_label, no_cell, Reads}
+use Rattle.texts.specs.Texts.{Opens, GoodSoFar, NextLine, BadLine, no_sizes_header, no_sizes, sizes_outside, no_sentences_header, no_sentence, malformed, no_label, no_cell, Reads}
 use Rattle.texts.specs.Once.{OneBadLine}
 use Rattle.texts.specs.Parts.{Unfit, ill_formed, unlabelled, full, BadSentence, unlike, unfit, Loads}
 use Rattle.texts.proofs.Rows.{same_sizes, same_sentence, line_some}
@@ -83,14 +83,14 @@ module _ {L : Type 0} (k : Kind L) (laws : Lawful k) where
         (z : Sizes) (rest : List ℕ) → line ≡ 3 → e ≡ MalformedLine → outside_limits z ≡ false → Opens text sizes_header (sizes_line z ++ rest)
         → ((more : List ℕ) → Opens rest sentences_header more → ⊥) → Fault cells text e line
     at_sentence :
-        (z : Sizes) (ss : List (Sentence L)) (rest : List ℕ) → line ≡ 4 + length ss → Good-so-far k cells text z ss rest → (rest ≡ [] → ⊥)
+        (z : Sizes) (ss : List (Sentence L)) (rest : List ℕ) → line ≡ 4 + length ss → GoodSoFar k cells text z ss rest → (rest ≡ [] → ⊥)
         → BadSentence k z cells (length ss) rest e → Fault cells text e line
 
   line_there : (s : Sentence ℕ) (rest : List ℕ) → sentence_line s ++ rest ≡ [] → ⊥
   line_there s rest h = omega (arith, ap length h, length-append (sentence_line s) rest, line_some s)
 
   next_fault :
-      (cells : ℕ) (text : List ℕ) (z : Sizes) (ss : List (Sentence L)) (s : Sentence ℕ) (e : Refusal) → Next-line k cells text z ss s
+      (cells : ℕ) (text : List ℕ) (z : Sizes) (ss : List (Sentence L)) (s : Sentence ℕ) (e : Refusal) → NextLine k cells text z ss s
       → Unfit k z cells (length ss) s e → Fault cells text e (4 + length ss)
   next_fault cells text z ss s e n u =
       at_sentence z ss (sentence_line s ++ n.rest) refl n.good (line_there s n.rest) (unfit s n.rest e n.fits refl u)
@@ -171,7 +171,7 @@ module _ {L : Type 0} (k : Kind L) (laws : Lawful k) where
   -- lines that stand before a bad one, and those of a book whose lines go on to another place of the text
   module _
       (cells : ℕ) (text : List ℕ) (y z : Sizes) (ss ts : List (Sentence L)) (r u : List ℕ)
-      (a : Good-so-far k cells text y ss r) (b : Good-so-far k cells text z ts u) where
+      (a : GoodSoFar k cells text y ss r) (b : GoodSoFar k cells text z ts u) where
     left_part : Holdable cells y ss
     left_part = holdable_parts cells y ss a.can_be
 
@@ -200,13 +200,13 @@ module _ {L : Type 0} (k : Kind L) (laws : Lawful k) where
   -- a third line that is bad is not that of good lines
   past_columns :
       (cells : ℕ) (text : List ℕ) (y : Sizes) (before : List ℕ) → outside_limits y ≡ false → Opens text sizes_header (sizes_line y ++ before)
-      → ((more : List ℕ) → Opens before sentences_header more → ⊥) → (z : Sizes) (ss : List (Sentence L)) (rest : List ℕ) → Good-so-far k cells text z ss rest → ⊥
+      → ((more : List ℕ) → Opens before sentences_header more → ⊥) → (z : Sizes) (ss : List (Sentence L)) (rest : List ℕ) → GoodSoFar k cells text z ss rest → ⊥
   past_columns cells text y before limits h none z ss rest good =
       none (flat_map (line_of k) ss ++ rest)
       (after_sizes text before (sentences_header ++ (flat_map (line_of k) ss ++ rest)) y z limits (holdable_parts cells z ss good.can_be).limits h (apart text z ss rest good.so_far)).1
 
   -- nothing is left after a book's own text
-  whole_text : (cells : ℕ) (text : List ℕ) (z : Sizes) (ss : List (Sentence L)) → holdable cells z ss ≡ true → text ≡ text_of k z ss → Good-so-far k cells text z ss []
+  whole_text : (cells : ℕ) (text : List ℕ) (z : Sizes) (ss : List (Sentence L)) → holdable cells z ss ≡ true → text ≡ text_of k z ss → GoodSoFar k cells text z ss []
   whole_text cells text z ss can h = record { can_be = can; so_far = h ∙ sym (append-nil (text_of k z ss)) }
 
   fault_none : (cells : ℕ) (text : List ℕ) (e : Refusal) (line : ℕ) → Fault cells text e line → (z : Sizes) (ss : List (Sentence L)) → holdable cells z ss ≡ true → text ≡ text_of k z ss → ⊥
@@ -239,8 +239,8 @@ module _ {L : Type 0} (k : Kind L) (laws : Lawful k) where
 
   -- two bad lines after the sizes are one
   sentences_once :
-      (cells : ℕ) (text : List ℕ) (e f : Refusal) (y z : Sizes) (ss ts : List (Sentence L)) (r u : List ℕ) → Good-so-far k cells text y ss r
-      → Good-so-far k cells text z ts u → BadSentence k y cells (length ss) r e → BadSentence k z cells (length ts) u f
+      (cells : ℕ) (text : List ℕ) (e f : Refusal) (y z : Sizes) (ss ts : List (Sentence L)) (r u : List ℕ) → GoodSoFar k cells text y ss r
+      → GoodSoFar k cells text z ts u → BadSentence k y cells (length ss) r e → BadSentence k z cells (length ts) u f
       → y ≡ z → Onward ss ts r u → (e ≡ f) × (length ss ≡ length ts)
   sentences_once cells text e f y z ss ts r u a b bad worse same o =
       let there = stops_there cells text y z ss ts r u a b e bad o in (

@@ -12,7 +12,7 @@ use Rattle.terms.specs.Sentences.{well_formed, holdable}
 use Rattle.terms.proofs.Holding.{holdable_parts, holdable_from, each_append}
 use Rattle.books.specs.Contents.{Contents, unsettled}
 use Rattle.texts.specs.Lines.{sizes_header, sizes_line, sentences_header, sentence_line, numbered, text_of}
-use Rattle.texts.specs.Texts.{Opens, Good-so-far, Next-line, BadLine, no_sentence, malformed, no_label, no_cell, ReadBook}
+use Rattle.texts.specs.Texts.{Opens, GoodSoFar, NextLine, BadLine, no_sentence, malformed, no_label, no_cell, ReadBook}
 use Rattle.texts.specs.Parts.{SoFar, Unfit, ill_formed, unlabelled, full, BadSentence, unlike, unfit, NextSentence}
 
 pub regroup : {X : Type 0} (a b c d e : List X) → a ++ (b ++ (c ++ (d ++ e))) ≡ (a ++ (b ++ (c ++ d))) ++ e
@@ -63,12 +63,12 @@ module _ {L : Type 0} (k : Kind L) where
     so_far_all : rest ≡ [] → text ≡ text_of k old.sizes old.sentences
     so_far_all e = w.good.so_far ∙ ap (λ r. text_of k old.sizes old.sentences ++ r) e ∙ append-nil (text_of k old.sizes old.sentences)
 
-    good_next : (s : Sentence ℕ) (more : List ℕ) → Opens rest (sentence_line s) more → Good-so-far k cells text old.sizes old.sentences (sentence_line s ++ more)
-    good_next s more e = subst (λ r. Good-so-far k cells text old.sizes old.sentences r) e w.good
+    good_next : (s : Sentence ℕ) (more : List ℕ) → Opens rest (sentence_line s) more → GoodSoFar k cells text old.sizes old.sentences (sentence_line s ++ more)
+    good_next s more e = subst (λ r. GoodSoFar k cells text old.sizes old.sentences r) e w.good
 
     -- the line of a sentence that cannot be entered is the first bad one
     unfit_next :
-        (s : Sentence ℕ) (e : Refusal) → Next-line k cells text old.sizes old.sentences s
+        (s : Sentence ℕ) (e : Refusal) → NextLine k cells text old.sizes old.sentences s
         → Unfit k old.sizes old.cells (length old.sentences) s e → BadLine k cells text e (4 + length old.sentences)
     unfit_next s e n (ill_formed f) = malformed old.sizes old.sentences s n f
     unfit_next s e n (unlabelled f none) = no_label old.sizes old.sentences s n f none

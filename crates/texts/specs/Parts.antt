@@ -10,12 +10,12 @@ use Rattle.terms.specs.Sentences.{well_formed}
 use Rattle.books.specs.Contents.{Contents, unsettled}
 use Rattle.texts.specs.declared.Misread.{Misread}
 use Rattle.texts.specs.Lines.{sentence_line, sentence_fits, numbered}
-use Rattle.texts.specs.Texts.{Opens, Good-so-far, BadLine, ReadBook}
+use Rattle.texts.specs.Texts.{Opens, GoodSoFar, BadLine, ReadBook}
 
 module _ {L : Type 0} (k : Kind L) where
   -- the book holds what the lines so far say, it is not settled, and the rest comes after these lines
   pub record SoFar (cells : ℕ) (text rest : List ℕ) (new : Contents L) : Type 0 where
-    pub good : Good-so-far k cells text new.sizes new.sentences rest
+    pub good : GoodSoFar k cells text new.sizes new.sentences rest
     pub fresh : new.settled ≡ false
     pub over : new.cells ≡ cells
 

@@ -9,7 +9,7 @@ use Rattle.texts.specs.Texts.{Reads, Writes}
 
 module _ {L : Type 0} (k : Kind L) where
   -- the book read is the one that was written
-  pub record Read-again (written old : Contents L) (r : Result (Unit {0}) Misread) (new : Contents L) : Type 0 where
+  pub record ReadAgain (written old : Contents L) (r : Result (Unit {0}) Misread) (new : Contents L) : Type 0 where
     -- the text is accepted
     pub accepted : r ≡ Ok tt
     -- the three sizes are those written
@@ -25,4 +25,4 @@ module _ {L : Type 0} (k : Kind L) where
   abbrev pub ReadsBack : Type 0
   ReadsBack =
       (written old new : Contents L) (before after : List ℕ) (n : ℕ) (r : Result (Unit {0}) Misread) → Writes k written before (Ok n) after
-      → holdable old.cells written.sizes written.sentences ≡ true → Reads k old (take n after) r new → Read-again written old r new
+      → holdable old.cells written.sizes written.sentences ≡ true → Reads k old (take n after) r new → ReadAgain written old r new

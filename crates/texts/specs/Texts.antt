@@ -18,14 +18,14 @@ Opens text line rest = text ≡ line ++ rest
 
 module _ {L : Type 0} (k : Kind L) (cells : ℕ) (text : List ℕ) where
   -- all lines so far are good: they are the text of a book that the memory can hold, and the rest comes after them
-  pub record Good-so-far (z : Sizes) (ss : List (Sentence L)) (rest : List ℕ) : Type 0 where
+  pub record GoodSoFar (z : Sizes) (ss : List (Sentence L)) (rest : List ℕ) : Type 0 where
     pub can_be : holdable cells z ss ≡ true
     pub so_far : Opens text (text_of k z ss) rest
 
   -- the next line is that of a sentence for each of whose numbers its field has room
-  pub record Next-line (z : Sizes) (ss : List (Sentence L)) (s : Sentence ℕ) : Type 0 where
+  pub record NextLine (z : Sizes) (ss : List (Sentence L)) (s : Sentence ℕ) : Type 0 where
     pub rest : List ℕ
-    pub good : Good-so-far z ss (sentence_line s ++ rest)
+    pub good : GoodSoFar z ss (sentence_line s ++ rest)
     pub fits : sentence_fits s ≡ true
 
   -- the refusal of the first bad or missing line, and that line's number; within a line 11 comes before 1 to 4, and these in order
@@ -41,17 +41,17 @@ module _ {L : Type 0} (k : Kind L) (cells : ℕ) (text : List ℕ) where
         (z : Sizes) (rest : List ℕ) → Opens text (sizes_header ++ sizes_line z) rest
         → outside_limits z ≡ false → ((more : List ℕ) → Opens rest sentences_header more → ⊥) → BadLine MalformedLine 3
     no_sentence :
-        (z : Sizes) (ss : List (Sentence L)) (rest : List ℕ) → Good-so-far z ss rest → (rest ≢ [])
+        (z : Sizes) (ss : List (Sentence L)) (rest : List ℕ) → GoodSoFar z ss rest → (rest ≢ [])
         → ((s : Sentence ℕ) (more : List ℕ) → sentence_fits s ≡ true → Opens rest (sentence_line s) more → ⊥)
         → BadLine MalformedLine (4 + length ss)
     malformed :
-        (z : Sizes) (ss : List (Sentence L)) (s : Sentence ℕ) → Next-line z ss s
+        (z : Sizes) (ss : List (Sentence L)) (s : Sentence ℕ) → NextLine z ss s
         → well_formed z s ≡ false → BadLine MalformedSentence (4 + length ss)
     no_label :
-        (z : Sizes) (ss : List (Sentence L)) (s : Sentence ℕ) → Next-line z ss s
+        (z : Sizes) (ss : List (Sentence L)) (s : Sentence ℕ) → NextLine z ss s
         → well_formed z s ≡ true → ((l : L) → k.number l ≢ s.label) → BadLine NoSuchLabel (4 + length ss)
     no_cell :
-        (z : Sizes) (ss : List (Sentence L)) (s : Sentence ℕ) → Next-line z ss s
+        (z : Sizes) (ss : List (Sentence L)) (s : Sentence ℕ) → NextLine z ss s
         → well_formed z s ≡ true → (l : L) → k.number l ≡ s.label → length ss ≡ cells → BadLine BookFull (4 + length ss)
 
   -- accepted: this is the text of the book that is then there, which the memory can hold

@@ -11,7 +11,7 @@ use Rattle.terms.specs.Lists.{◌∈◌, counting}
 use Rattle.terms.specs.Places.{nodes, Fact, member, link}
 use Rattle.terms.proofs.Placing.{Within}
 use Rattle.theory.specs.Rules.{in_view, Derives, top, self, form_1, form_2, form_3, form_4, form_5, form_6, Exact, Least}
-use Rattle.theory.proofs.Names.{Sound-book, within}
+use Rattle.theory.proofs.Names.{SoundBook, within}
 use Rattle.theory.proofs.Lists.{in_counting, of_counting, in_left, in_right}
 use Rattle.theory.proofs.Labels.{in_its_view, of_view, view_sound, exact_least, least_exact}
 
@@ -51,7 +51,7 @@ module _ {L : Type 0} (z : Sizes) (ss : List (Sentence L)) where
   step_derives (by_6 s i q) = form_6 s i q
 
   -- what every step keeps holds all that follows
-  derives_in : Sound-book z ss → (P : Fact → Type 0) → ((f : Fact) → Step z ss P f → P f) → (f : Fact) → Derives z ss f → P f
+  derives_in : SoundBook z ss → (P : Fact → Type 0) → ((f : Fact) → Step z ss P f → P f) → (f : Fact) → Derives z ss f → P f
   derives_in g P h _ (top l) = h _ (by_top l)
   derives_in g P h _ (self l) = h _ (by_self l)
   derives_in g P h _ (form_1 s i q p) = h _ (by_1 s i q (derives_in g P h _ p))
@@ -222,7 +222,7 @@ module _ {L : Type 0} (k : Kind L) where
     sum_in g (y ∷ xs) x (inl e) h = either_left (g y) (sum g xs) (subst (λ a. H (g a)) e h)
     sum_in g (y ∷ xs) x (inr m) h = either_right (g y) (sum g xs) (sum_in g xs x m h)
 
-    module _ (z : Sizes) (ss : List (Sentence L)) (g : Sound-book z ss) where
+    module _ (z : Sizes) (ss : List (Sentence L)) (g : SoundBook z ss) where
       abbrev V : List (Sentence L)
       V = in_view k v ss
 
@@ -395,11 +395,11 @@ module _ {L : Type 0} (k : Kind L) where
             (λ f p. at_rest f (step_in (often z ss (length (all_facts z))) f p)) f,
       )
 
-  pub exact_labels : (z : Sizes) (ss : List (Sentence L)) → Lawful k → Sound-book z ss → (label : Fact → L) × Exact k z ss label
+  pub exact_labels : (z : Sizes) (ss : List (Sentence L)) → Lawful k → SoundBook z ss → (label : Fact → L) × Exact k z ss label
   exact_labels z ss laws g = (often z ss (length (all_facts z)), λ f v r l. held_just laws v l z ss g f)
 
-  pub least_labels : (z : Sizes) (ss : List (Sentence L)) → Lawful k → Sound-book z ss → (label : Fact → L) × Least k z ss label
+  pub least_labels : (z : Sizes) (ss : List (Sentence L)) → Lawful k → SoundBook z ss → (label : Fact → L) × Least k z ss label
   least_labels z ss laws g = let e = exact_labels z ss laws g in (e.0, exact_least k z ss laws g e.0 e.1)
 
-  pub least_are_exact : (z : Sizes) (ss : List (Sentence L)) → Lawful k → Sound-book z ss → (label : Fact → L) → Least k z ss label → Exact k z ss label
+  pub least_are_exact : (z : Sizes) (ss : List (Sentence L)) → Lawful k → SoundBook z ss → (label : Fact → L) → Least k z ss label → Exact k z ss label
   least_are_exact z ss laws g label m = let e = exact_labels z ss laws g in least_exact k z ss laws g e.0 e.1 label m

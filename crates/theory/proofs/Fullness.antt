@@ -9,14 +9,14 @@ use Rattle.terms.specs.Lists.{count}
 use Rattle.terms.specs.Places.{places, place}
 use Rattle.terms.proofs.Placing.{at_place, within_range}
 use Rattle.terms.proofs.Counting.{count_more}
-use Rattle.theory.specs.Rules.{Exact, Settles-some, Overfull, Settling}
-use Rattle.theory.proofs.Names.{Sound-book, sound_book}
+use Rattle.theory.specs.Rules.{Exact, SettlesSome, Overfull, Settling}
+use Rattle.theory.proofs.Names.{SoundBook, sound_book}
 use Rattle.theory.proofs.Labels.{exact_least, least_alike}
 use Rattle.theory.proofs.Exists.{least_labels, least_are_exact}
 
 module _ {L : Type 0} (k : Kind L) (laws : Lawful k) where
-  module _ (z : Sizes) (ss : List (Sentence L)) (g : Sound-book z ss) (on : ℕ → L) (exact : Exact k z ss (λ f. on (place z f))) where
-    settles : (p : ℕ) → p < places z → some_view k (on p) ≡ true → Settles-some k z ss p
+  module _ (z : Sizes) (ss : List (Sentence L)) (g : SoundBook z ss) (on : ℕ → L) (exact : Exact k z ss (λ f. on (place z f))) where
+    settles : (p : ℕ) → p < places z → some_view k (on p) ≡ true → SettlesSome k z ss p
     settles p l h =
         let f = at_place z g.has_top p l in
         let v = view_of laws (on p) h in
@@ -30,7 +30,7 @@ module _ {L : Type 0} (k : Kind L) (laws : Lawful k) where
           derived = (exact f.0 v.0 i v.1).0 (subst (λ q. k.holds (on q) v.0 ≡ true) (sym f.2) v.2);
         }
 
-    marked_some : (p : ℕ) → Settles-some k z ss p → some_view k (on p) ≡ true
+    marked_some : (p : ℕ) → SettlesSome k z ss p → some_view k (on p) ≡ true
     marked_some p s =
         not_none laws (on p) s.view s.a_view
         (subst (λ q. k.holds (on q) s.view ≡ true) s.at ((exact s.fact s.view s.within s.a_view).1 s.derived))

@@ -11,7 +11,7 @@ use Rattle.terms.proofs.Truths.{say, said}
 use Rattle.terms.proofs.Placing.{Within, within_range}
 use Rattle.theory.specs.Rules.{in_view, Derives, top, self, form_1, form_2, form_3, form_4, form_5, form_6, Satisfies, Least, Exact}
 use Rattle.theory.specs.Entailed.{ShowsDerived}
-use Rattle.theory.proofs.Names.{Sound-book, within}
+use Rattle.theory.proofs.Names.{SoundBook, within}
 use Rattle.theory.proofs.Lists.{in_kept, of_kept}
 
 -- the sentences that pass a test are a book that can be, where all of them are
@@ -43,14 +43,14 @@ view_holdable k v cells z ss h =
     (and_from (each (well_formed z) (in_view k v ss)) _ (each_kept (λ s. k.holds s.label v) (well_formed z) ss q.0)
     (le-leb (length (in_view k v ss)) cells (omega (arith, l, m))))
 
-module _ {L : Type 0} (k : Kind L) (z : Sizes) (ss : List (Sentence L)) (laws : Lawful k) (g : Sound-book z ss) where
+module _ {L : Type 0} (k : Kind L) (z : Sizes) (ss : List (Sentence L)) (laws : Lawful k) (g : SoundBook z ss) where
   pub in_its_view : (v : ℕ) (s : Sentence L) → s ∈ ss → k.holds s.label v ≡ true → s ∈ in_view k v ss
   in_its_view v s m h = in_kept (λ s. k.holds s.label v) ss s m (say h)
 
   pub of_view : (v : ℕ) (s : Sentence L) → s ∈ in_view k v ss → (k.holds s.label v ≡ true) × (s ∈ ss)
   of_view v s m = let r = of_kept (λ s. k.holds s.label v) ss s m in (said _ r.0, r.1)
 
-  pub view_sound : (v : ℕ) → Sound-book z (in_view k v ss)
+  pub view_sound : (v : ℕ) → SoundBook z (in_view k v ss)
   view_sound v = record { has_top = g.has_top; proper = λ s m. g.proper s (of_view v s m).1 }
 
   pub both_of : (a b : L) (v : ℕ) → v < k.views → k.holds (k.both a b) v ≡ true → (k.holds a v ≡ true) × (k.holds b v ≡ true)

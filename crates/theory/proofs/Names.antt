@@ -19,7 +19,7 @@ pub record Proper {L : Type 0} (z : Sizes) (s : Sentence L) : Type 0 where
   pub form_5 : s.form ≡ 5 → (s.first < z.individuals) × (s.third < z.concepts)
   pub form_6 : s.form ≡ 6 → (s.first < z.individuals) × (s.role < z.roles) × (s.third < z.individuals)
 
-pub record Sound-book {L : Type 0} (z : Sizes) (ss : List (Sentence L)) : Type 0 where
+pub record SoundBook {L : Type 0} (z : Sizes) (ss : List (Sentence L)) : Type 0 where
   pub has_top : 0 < z.concepts
   pub proper : (s : Sentence L) → s ∈ ss → Proper z s
 
@@ -75,7 +75,7 @@ each_in test [] h x m = absurd m
 each_in test (y ∷ xs) h x (inl e) = subst (λ a. test a ≡ true) (sym e) (and_parts (test y) (each test xs) h).0
 each_in test (y ∷ xs) h x (inr m) = each_in test xs (and_parts (test y) (each test xs) h).1 x m
 
-pub sound_book : {L : Type 0} (cells : ℕ) (z : Sizes) (ss : List (Sentence L)) → holdable cells z ss ≡ true → Sound-book z ss
+pub sound_book : {L : Type 0} (cells : ℕ) (z : Sizes) (ss : List (Sentence L)) → holdable cells z ss ≡ true → SoundBook z ss
 sound_book cells z ss h =
     let p = and_parts (not (outside_limits z)) (each (well_formed z) ss && leb (length ss) cells) h in
     let q = and_parts (each (well_formed z) ss) (leb (length ss) cells) p.1 in
@@ -86,7 +86,7 @@ sound_book cells z ss h =
       proper = λ s m. well_proper z s (each_in (well_formed z) ss q.0 s m);
     }
 
-module _ {L : Type 0} (z : Sizes) (ss : List (Sentence L)) (g : Sound-book z ss) where
+module _ {L : Type 0} (z : Sizes) (ss : List (Sentence L)) (g : SoundBook z ss) where
   pub within : {f : Fact} → Derives z ss f → Within z f
   within (top h) = (h, g.has_top)
   within (self h) = (omega arith, h)

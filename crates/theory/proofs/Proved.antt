@@ -7,7 +7,7 @@ use Rattle.terms.specs.Places.{nodes, Fact, member}
 use Rattle.theory.specs.World.{meant}
 use Rattle.theory.specs.Description.{Description, done, name, Fits, description}
 use Rattle.theory.specs.Entailed.{table_world, EveryWorldSaysYes, ShowsDerived, Canonical, Theory}
-use Rattle.theory.proofs.Names.{Sound-book, sound_book}
+use Rattle.theory.proofs.Names.{SoundBook, sound_book}
 use Rattle.theory.proofs.Sound.{world_model}
 use Rattle.theory.proofs.Table.{holds, follows, table_is_world, says_yes, table_fits}
 use Rattle.theory.proofs.Describe.{shallow, all_fit, least}
@@ -16,7 +16,7 @@ one_of : (xs : List ℕ) → 1 ≤ length xs → (x : ℕ) × (x ∈ xs)
 one_of [] h = absurd (omega (arith, h))
 one_of (x ∷ xs) h = (x, inl refl)
 
-module _ {L : Type 0} (z : Sizes) (ss : List (Sentence L)) (g : Sound-book z ss) (so : Fact → Bool) (shows : ShowsDerived z ss so) where
+module _ {L : Type 0} (z : Sizes) (ss : List (Sentence L)) (g : SoundBook z ss) (so : Fact → Bool) (shows : ShowsDerived z ss so) where
   everywhere : (x : ℕ) (D : Description) → Fits (meant (table_world z so)) x D → EveryWorldSaysYes z ss x D
   everywhere x D f w h = says_yes z ss g so shows (meant w) (world_model z ss w h) D x f
 

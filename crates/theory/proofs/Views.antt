@@ -9,12 +9,12 @@ use Rattle.terms.specs.Sentences.{holdable}
 use Rattle.theory.specs.Rules.{in_view, Exact, Least}
 use Rattle.theory.specs.Description.{name, done}
 use Rattle.theory.specs.Entailed.{EveryWorldSaysYes, Canonical, LabelsHoldWhatEveryWorldSays}
-use Rattle.theory.proofs.Names.{Sound-book, sound_book}
+use Rattle.theory.proofs.Names.{SoundBook, sound_book}
 use Rattle.theory.proofs.Labels.{view_sound, exact_shows}
 use Rattle.theory.proofs.Proved.{canonical}
 use Rattle.theory.proofs.Exists.{least_are_exact}
 
-module _ {L : Type 0} (k : Kind L) (laws : Lawful k) (z : Sizes) (ss : List (Sentence L)) (g : Sound-book z ss)
+module _ {L : Type 0} (k : Kind L) (laws : Lawful k) (z : Sizes) (ss : List (Sentence L)) (g : SoundBook z ss)
     (label : Fact → L) (e : Exact k z ss label) (v : ℕ) (l : v < k.views) where
   pub view_canonical : Canonical z (in_view k v ss) (λ f. in_range z f && k.holds (label f) v)
   view_canonical =

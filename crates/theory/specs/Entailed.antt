@@ -6,7 +6,7 @@ use Rattle.terms.specs.declared.Sentence.{Sentence}
 use Rattle.terms.specs.Lists.{◌∈◌}
 use Rattle.terms.specs.Sentences.{holdable}
 use Rattle.terms.specs.Places.{nodes, Fact, member, link}
-use Rattle.theory.specs.World.{World, World-of, meant}
+use Rattle.theory.specs.World.{World, WorldOf, meant}
 use Rattle.theory.specs.Rules.{Derives, in_view}
 use Rattle.theory.specs.Description.{Description, done, name, Fits, role_depth, SaysYes, description}
 
@@ -23,11 +23,11 @@ table_world z so =
 module _ {L : Type 0} (z : Sizes) (ss : List (Sentence L)) where
   -- every world of these sentences says yes of node x to D
   abbrev pub EveryWorldSaysYes : ℕ → Description → Type 0
-  EveryWorldSaysYes x D = (w : World) → World-of z ss w → SaysYes z (meant w) x D
+  EveryWorldSaysYes x D = (w : World) → WorldOf z ss w → SaysYes z (meant w) x D
 
   -- D implies E in each world of these sentences: all that fits D fits E
   abbrev pub Implies : Description → Description → Type 0
-  Implies D E = (w : World) → World-of z ss w → (e : ℕ) → e < w.count → Fits (meant w) e D → Fits (meant w) e E
+  Implies D E = (w : World) → WorldOf z ss w → (e : ℕ) → e < w.count → Fits (meant w) e D → Fits (meant w) e E
 
   -- D is a least common description of the nodes: every world says yes of each to D, and D implies every description of role depth at most k of which that is so
   pub record LeastCommon (k : ℕ) (xs : List ℕ) (D : Description) : Type 0 where
@@ -45,7 +45,7 @@ module _ {L : Type 0} (z : Sizes) (ss : List (Sentence L)) where
     -- a membership follows exactly when every world says so
     pub membership : (x B : ℕ) → x < nodes z → Derives z ss (member x B) ↔ EveryWorldSaysYes x (name B done)
     -- the table is itself a world of the sentences
-    pub is_world : World-of z ss (table_world z so)
+    pub is_world : WorldOf z ss (table_world z so)
     -- a node fits there, the table says yes of it, and every world says yes of it: these are one
     pub node_fits : (x : ℕ) → x < nodes z → (D : Description) → Fits (meant (table_world z so)) x D ↔ EveryWorldSaysYes x D
     pub table_says : (x : ℕ) → x < nodes z → (D : Description) → SaysYes z (meant (table_world z so)) x D ↔ EveryWorldSaysYes x D
