@@ -7,6 +7,7 @@ ghost use Rattle.terms.specs.Refusals.{number_of};
 use std::error::Error;
 use std::fmt;
 
+pub mod forms;
 pub mod places;
 pub mod sentences;
 
@@ -37,6 +38,7 @@ pub struct Sizes {
 // A sentence: the field's axiom in normal form, with the label of the views that it holds in.
 #[derive(Clone, Copy)]
 pub struct Sentence<L> {
+    // A number, since any may be handed over: one that is no form's is refused.
     pub form: u8,
     pub first: u16,
     pub second: u16,
@@ -49,6 +51,7 @@ pub struct Sentence<L> {
 #[derive(Clone, Copy, PartialEq, Eq)]
 pub struct Record {
     pub depth: u8,
+    // A number, since any may be handed over: one that is neither 0 nor 1 is refused.
     pub kind: u8,
     pub number: u16,
 }

@@ -2,6 +2,7 @@
 ghost use Rattle.std.specs.Prelude.{◌≡◌};
 ghost use Rattle.terms.specs.Sentences.{blank_sentence, well_formed};
 
+use crate::forms::Form;
 use crate::{Sentence, Sizes};
 use labels::Label;
 
@@ -28,18 +29,21 @@ impl<L: Copy> Sentence<L> {
     {
         let concept = self.first < sizes.concepts;
         let unit = self.first < sizes.individuals;
+        let second = self.second < sizes.concepts;
         let no_second = self.second == 0;
         let role = self.role < sizes.roles;
         let no_role = self.role == 0;
         let third = self.third < sizes.concepts;
         let third_unit = self.third < sizes.individuals;
-        match self.form {
-            1 => concept & no_second & no_role & third,
-            2 => concept & (self.second < sizes.concepts) & no_role & third,
-            3 | 4 => concept & no_second & role & third,
-            5 => unit & no_second & no_role & third,
-            6 => unit & no_second & role & third_unit,
-            _ => false,
+        match Form::try_from(self.form) {
+            Ok(Form::Inclusion) => concept & no_second & no_role & third,
+            Ok(Form::Conjunction) => concept & second & no_role & third,
+            Ok(Form::ExistentialOnRight | Form::ExistentialOnLeft) => {
+                concept & no_second & role & third
+            }
+            Ok(Form::ConceptAssertion) => unit & no_second & no_role & third,
+            Ok(Form::RoleAssertion) => unit & no_second & role & third_unit,
+            Err(_) => false,
         }
     }
 }
