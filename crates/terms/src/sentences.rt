@@ -1,6 +1,6 @@
 // Which sentences keep the rules.
 ghost use Rattle.std.specs.Prelude.{◌≡◌};
-ghost use Rattle.terms.specs.Sentences.{blank_sentence, well_formed};
+ghost use Rattle.terms.specs.Sentences.{blank_sentence, relabelled, well_formed};
 
 use crate::forms::Form;
 use crate::{Sentence, Sizes};
@@ -23,6 +23,20 @@ impl<L: Label> Sentence<L> {
 }
 
 impl<L: Copy> Sentence<L> {
+    // The same sentence with another label.
+    pub fn with_label<M>(self, label: M) -> Sentence<M>
+        ensures { result ≡ relabelled self label }
+    {
+        Sentence {
+            form: self.form,
+            first: self.first,
+            second: self.second,
+            role: self.role,
+            third: self.third,
+            label,
+        }
+    }
+
     // Whether the form is one of the six, each name that it uses is in range, and each other is 0.
     pub fn is_well_formed(self, sizes: Sizes) -> bool
         ensures { result ≡ well_formed sizes self }
