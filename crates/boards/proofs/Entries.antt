@@ -1,10 +1,39 @@
 -- What looking a place up among entries gives, also after one is changed or appended. Assumes nothing.
-use Rattle.std.proofs.Common.{◌≡◌, ℕ, zero, suc, ◌+◌, ◌<◌, ◌≤◌, true, cond, not, eqb, List, [], ◌∷◌, ◌++◌, length, get_or, take, set, Some, sym, refl, ap, ◌∙◌, subst, ⊎_elim, arith}
+use Rattle.std.proofs.Common.{◌≡◌, ℕ, zero, suc, ◌+◌, ◌<◌, ◌≤◌, true, Bool, cond, not, eqb, ltb, List, [], ◌∷◌, ◌++◌, length, get_or, take, set, Some, None, Option, sym, refl, ap, ◌∙◌, subst, ⊎_elim, arith}
 use Rattle.std.proofs.lemmas.List.{length-take-le, get_or_default, get_or-take, take_more, take-take}
-use Rattle.std.proofs.lemmas.Bool.{cases_eq, cond-true, cond-false, eq-eqb, ne_eqb}
+use Rattle.std.proofs.lemmas.Bool.{cases_eq, cases_lt, cond-true, cond-false, eq-eqb, eqb-true, eqb-false, lt-ltb, ne_eqb}
+use Rattle.std.proofs.lemmas.List.Quantifiers.{position-Some}
+use Rattle.std.proofs.lemmas.List.Sums.{fails_before_first}
+use Rattle.std.proofs.lemmas.Option.{none-some}
+use Rattle.std.proofs.Math.Seq.{take-length}
+use Rattle.std.specs.List.{position, position_or_len}
 use Rattle.labels.specs.Kind.{Kind, some_view}
 use Rattle.boards.specs.declared.sparse.Entry.{Entry}
-use Rattle.boards.specs.Sparse.{entered, Absent, Apart, FirstEntry}
+use Rattle.boards.specs.Entries.{entered, Absent, Apart}
+
+-- the index of the first entry of a place, or that no entry has it
+abbrev pub FirstEntry : {L : Type 0} → List (Entry L) → ℕ → Option ℕ → Type 0
+FirstEntry {L} es p (Some at) = (at < length es) × Absent p (take at es) × ((blank : Entry L) → (get_or es at blank).place ≡ p)
+FirstEntry es p None = Absent p es
+
+-- the first n entries have other places
+absent_below : {L : Type 0} (p : ℕ) (blank : Entry L) (es : List (Entry L)) (n : ℕ) → ((j : ℕ) → j < n → (get_or es j blank).place ≡ p → ⊥) → Absent p (take n es)
+absent_below p blank [] zero other = tt
+absent_below p blank [] (suc n) other = tt
+absent_below p blank (e ∷ es) zero other = tt
+absent_below p blank (e ∷ es) (suc n) other = (other 0 (omega arith), absent_below p blank es n (λ j below. other (suc j) (omega arith)))
+
+-- a search of the entries for a place finds its first entry
+pub first_entry : {L : Type 0} (none : L) (es : List (Entry L)) (p : ℕ) (r : Option ℕ) → r ≡ position (λ e. eqb e.place p) es → FirstEntry es p r
+first_entry {L} none es p (Some at) is =
+    let blank : Entry L = record { place = p; label = none } in
+    let found = λ (b : Entry L). position-Some (λ e. eqb e.place p) es at b (sym is) in
+    ((found blank).0, absent_below p blank es at (λ j below. eqb-false (get_or es j blank).place p ((found blank).2 j below)), λ b. eqb-true (get_or es at b).place p (found b).1)
+first_entry {L} none es p None is =
+    let blank : Entry L = record { place = p; label = none } in
+    let test : Entry L → Bool = λ e. eqb e.place p in
+    let missed : length es ≤ position_or_len test es = ⊎_elim (λ (found : position_or_len test es < length es). absurd (none-some (position_or_len test es) (is ∙ cond-true (ltb (position_or_len test es) (length es)) (Some (position_or_len test es)) None (lt-ltb (position_or_len test es) (length es) found)))) (λ past. past) (cases_lt (position_or_len test es) (length es)) in
+    subst (Absent p) (take-length es) (absent_below p blank es (length es) (λ j below. eqb-false (get_or es j blank).place p (fails_before_first test es j blank (omega (arith, missed, below)))))
 
 module _ {L : Type 0} where
   pub absent_push : (es : List (Entry L)) (e : Entry L) (p : ℕ) → Absent p es → (e.place ≡ p → ⊥) → Absent p (es ++ (e ∷ []))
@@ -30,6 +59,10 @@ module _ {L : Type 0} where
     rw (take-take i used es (omega arith)) before,
     λ blank. ap (λ e. e.place) (get_or-take used es i blank inside ∙ get_or_default es i blank read (omega arith)) ∙ at,
   )
+
+  -- an entry in use stands among all
+  pub in_use : (es : List (Entry L)) (used i : ℕ) → used ≤ length es → i < length (take used es) → i < length es
+  in_use es used i fits inside = omega (arith, length-take-le used es fits, inside)
 
   -- a change of an entry that leaves its place
   pub absent_set : (es : List (Entry L)) (i : ℕ) (blank e : Entry L) (p : ℕ) → e.place ≡ (get_or es i blank).place → Absent p es → Absent p (set es i e)

@@ -1,52 +1,81 @@
--- The search for the smallest place of an entry, one entry further, and what it finds. Assumes nothing.
-use Rattle.std.proofs.Common.{◌≡◌, ℕ, ◌+◌, ◌<◌, ◌≤◌, false, not, eqb, List, [], ◌∷◌, ◌++◌, length, get_or, take, Some, None, sym, refl, ap, ◌∙◌, subst, arith}
-use Rattle.std.proofs.lemmas.List.{take_more}
+-- The least place of an entry in use from one place up to another, and what it says of the board. Assumes nothing.
+use Rattle.std.proofs.Common.{◌≡◌, ℕ, ◌<◌, ◌≤◌, min, true, false, Bool, not, eqb, leb, ltb, ◌&&◌, List, [], ◌∷◌, take, Option, sym, refl, ap, ◌∙◌, subst, ⊎_elim, inl, inr, arith}
+use Rattle.std.specs.List.{fold, reduce}
+use Rattle.std.proofs.lemmas.Bool.{and_from, and_parts, cases_Bool, cases_lt, cond-false, cond-true, le-leb, leb-true, lt-ltb, ltb-true, both_ways}
 use Rattle.labels.specs.Kind.{Kind, Lawful, some_view}
+use Rattle.terms.specs.Lists.{◌∈◌}
 use Rattle.boards.specs.declared.sparse.Entry.{Entry}
-use Rattle.boards.specs.declared.sparse.Sparse.{Sparse}
 use Rattle.boards.specs.Meaning.{NextSome}
-use Rattle.boards.specs.Sparse.{used_entries, entered, sparse_meaning, SparseKept, Smallest}
-use Rattle.boards.proofs.Entries.{absent_push, absent_from_push, entered_absent, entered_some}
+use Rattle.boards.specs.Entries.{entered, entries_meaning, Absent, EntriesKept, places_between}
+use Rattle.boards.proofs.Entries.{entered_absent, entered_some}
 
-module _ {L : Type 0} (es : List (Entry L)) (from to place : ℕ) (so_far : Smallest es from to place) (e : Entry L) where
-  smaller_pushed : from ≤ e.place → e.place < place → Smallest (es ++ (e ∷ [])) from to e.place
-  smaller_pushed low smaller = record {
-    up_to = omega (arith, so_far.up_to);
-    none_smaller = λ p l h. absent_push es e p (so_far.none_smaller p l (omega arith)) (λ at. omega arith);
-    is_entered = λ h. (low, λ absent. (absent_from_push es e e.place absent).1 refl);
-  }
+-- the least of numbers is one of them, and none is less
+least : (a : ℕ) (xs : List ℕ) → (fold min a xs ∈ (a ∷ xs)) × ((x : ℕ) → x ∈ (a ∷ xs) → fold min a xs ≤ x)
+least a [] = (inl refl, λ x at. ⊎_elim (λ is. omega (arith, is)) (λ none. absurd none) at)
+least a (b ∷ xs) =
+    let rest = least (min a b) xs in (
+      ⊎_elim
+          (λ is. ⊎_elim (λ (lt : a < b). inl (omega (arith, is))) (λ (le : b ≤ a). inr (inl (omega (arith, is)))) (cases_lt a b))
+          (λ later. inr (inr later)) rest.0,
+      λ x at. ⊎_elim (λ is. omega (arith, is, rest.1 (min a b) (inl refl))) (λ more. ⊎_elim (λ is. omega (arith, is, rest.1 (min a b) (inl refl))) (λ later. rest.1 x (inr later)) more) at,
+    )
 
-  no_smaller_pushed : (from ≤ e.place → place ≤ e.place) → Smallest (es ++ (e ∷ [])) from to place
-  no_smaller_pushed not_smaller = record {
-    up_to = so_far.up_to;
-    none_smaller = λ p l h. absent_push es e p (so_far.none_smaller p l h) (λ at. omega (arith, not_smaller (omega arith)));
-    is_entered = λ h. ((so_far.is_entered h).0, λ absent. (so_far.is_entered h).1 (absent_from_push es e place absent).0);
-  }
+-- whether a place stands between two others
+abbrev Between : ℕ → ℕ → ℕ → Bool
+Between from to p = leb from p && ltb p to
 
-module _ {L : Type 0} (es : List (Entry L)) (i from to place : ℕ) (inside : i < length es) (so_far : Smallest (take i es) from to place) (blank : Entry L) (new : ℕ) where
-  abbrev here : ℕ
-  here = (get_or es i blank).place
+module _ {L : Type 0} (from to : ℕ) where
+  -- a place of an entry between the two stands there, and is not absent
+  found_between : (es : List (Entry L)) (m : ℕ) → m ∈ places_between from to es → (from ≤ m) × (m < to) × (Absent m es → ⊥)
+  found_between [] m at = absurd at
+  found_between (e ∷ es) m at =
+      let later : m ∈ places_between from to es → (from ≤ m) × (m < to) × (Absent m (e ∷ es) → ⊥) = λ more. let rest = found_between es m more in (rest.0, rest.1, λ absent. rest.2 absent.1) in
+      ⊎_elim
+      (λ (passes : Between from to e.place ≡ true).
+      let parts = and_parts (leb from e.place) (ltb e.place to) passes in
+      ⊎_elim
+      (λ is. (omega (arith, is, leb-true from e.place parts.0), omega (arith, is, ltb-true e.place to parts.1), λ absent. absent.0 (sym is)))
+      later
+      (subst (λ (ps : List ℕ). m ∈ ps) (cond-true (Between from to e.place) (e.place ∷ places_between from to es) (places_between from to es) passes) at))
+      (λ (fails : Between from to e.place ≡ false).
+      later (subst (λ (ps : List ℕ). m ∈ ps) (cond-false (Between from to e.place) (e.place ∷ places_between from to es) (places_between from to es) fails) at))
+      (cases_Bool (Between from to e.place))
 
-  one_more : Smallest (take i es ++ (get_or es i blank ∷ [])) from to new → Smallest (take (i + 1) es) from to new
-  one_more = subst (λ (xs : List (Entry L)). Smallest xs from to new) (sym (take_more es i blank inside))
+  -- a place between the two that is no entry's place is absent
+  absent_between : (es : List (Entry L)) (q : ℕ) → from ≤ q → q < to → (q ∈ places_between from to es → ⊥) → Absent q es
+  absent_between [] q low high out = tt
+  absent_between (e ∷ es) q low high out =
+      ⊎_elim
+      (λ (passes : Between from to e.place ≡ true).
+      let is = sym (cond-true (Between from to e.place) (e.place ∷ places_between from to es) (places_between from to es) passes) in
+      (λ at. out (subst (λ (ps : List ℕ). q ∈ ps) is (inl (sym at))), absent_between es q low high (λ more. out (subst (λ (ps : List ℕ). q ∈ ps) is (inr more)))))
+      (λ (fails : Between from to e.place ≡ false).
+      let is = sym (cond-false (Between from to e.place) (e.place ∷ places_between from to es) (places_between from to es) fails) in (
+        λ at. both_ways (Between from to e.place) fails (and_from (leb from e.place) (ltb e.place to) (le-leb from e.place (omega (arith, at))) (lt-ltb e.place to (omega (arith, at)))),
+        absent_between es q low high (λ more. out (subst (λ (ps : List ℕ). q ∈ ps) is more)),
+      ))
+      (cases_Bool (Between from to e.place))
 
-  pub smaller_next : new ≡ here → from ≤ here → here < place → Smallest (take (i + 1) es) from to new
-  smaller_next is low smaller =
-      one_more (subst (Smallest (take i es ++ (get_or es i blank ∷ [])) from to) (sym is) (smaller_pushed (take i es) from to place so_far (get_or es i blank) low smaller))
+module _ {L : Type 0} (k : Kind L) (laws : Lawful k) (es : List (Entry L)) (used size : ℕ) (kept : EntriesKept k es used size) (from to : ℕ) where
+  abbrev xs : List (Entry L)
+  xs = take used es
 
-  pub no_smaller_next : new ≡ place → (from ≤ here → place ≤ here) → Smallest (take (i + 1) es) from to new
-  no_smaller_next is not_smaller =
-      one_more (subst (Smallest (take i es ++ (get_or es i blank ∷ [])) from to) (sym is) (no_smaller_pushed (take i es) from to place so_far (get_or es i blank) not_smaller))
+  seen_none : (q : ℕ) → Absent q xs → some_view k (entered k xs q) ≡ false
+  seen_none q absent = ap (some_view k) (entered_absent k xs q absent) ∙ ap (λ n. not (eqb n 0)) laws.none_number
 
-module _ {L : Type 0} (k : Kind L) (laws : Lawful k) (b : Sparse L) (from to place : ℕ) (found : Smallest (used_entries b) from to place) where
-  none_before : (q : ℕ) → from ≤ q → q < place → some_view k (entered k (used_entries b) q) ≡ false
-  none_before q low high =
-      ap (some_view k) (entered_absent k (used_entries b) q (found.none_smaller q low high)) ∙ ap (λ n. not (eqb n 0)) laws.none_number
+  next_of : (ps : List ℕ) → ps ≡ places_between from to xs → NextSome k (entries_meaning k es used size) from to (reduce min ps)
+  next_of [] is = λ q low high. seen_none q (absent_between from to xs q low high (λ at. subst (λ (ps : List ℕ). q ∈ ps) (sym is) at))
+  next_of (p ∷ ps) is =
+      let smallest = least p ps in
+      let found = found_between from to xs (fold min p ps) (subst (λ (ns : List ℕ). fold min p ps ∈ ns) is smallest.0) in (
+        found.0,
+        found.1,
+        entered_some k size xs (fold min p ps) kept.apart found.2,
+        λ q low high. seen_none q (absent_between from to xs q low (omega (arith, high, found.1)) (λ at.
+            let lower : fold min p ps ≤ q = smallest.1 q (subst (λ (ns : List ℕ). q ∈ ns) (sym is) at) in
+            omega (arith, lower, high))),
+      )
 
-  pub next_found : SparseKept k b → place < to → NextSome k (sparse_meaning k b) from to (Some place)
-  next_found kept below =
-      let entry = found.is_entered below in
-      (entry.0, below, entered_some k b.size (used_entries b) place kept.apart entry.1, none_before)
-
-  pub next_missing : to ≤ place → NextSome k (sparse_meaning k b) from to None
-  next_missing reached = λ q low high. none_before q low (omega arith)
+  -- the least place that an entry in use has there is the next that is not none
+  pub next_is_least : (r : Option ℕ) → r ≡ reduce min (places_between from to xs) → NextSome k (entries_meaning k es used size) from to r
+  next_is_least r is = subst (NextSome k (entries_meaning k es used size) from to) (sym is) (next_of (places_between from to xs) refl)

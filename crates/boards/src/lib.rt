@@ -17,38 +17,27 @@ pub trait Board<L: Label> {
     // The size, the capacity, and the label at each place.
     ghost meaning: { Self → Meaning L };
 
-    // That what the board keeps beside its labels is right: making gives it, and every call keeps it.
-    ghost kept: { Self → Type 0 };
-
     fn size(&self) -> usize
-        requires { kept self.now }
         ensures { result ≡ (meaning self.now).size };
 
     fn capacity(&self) -> usize
-        requires { kept self.now }
         ensures { result ≡ (meaning self.now).capacity };
 
     // The label of a place, and none at or past the size.
     fn read(&self, place: usize) -> L
-        requires { kept self.now }
         ensures the_label { result ≡ (meaning self.now).label place }
         ensures none_past_the_size { (meaning self.now).size ≤ place → L.Label.kind.number result ≡ 0 };
 
     // Adds the views of a label to a place.
     fn put(&mut self, place: usize, added: L) -> Result<(), Refusal>
-        requires { kept self.old }
-        ensures kept { kept self.new }
         ensures put { Put L.Label.kind (meaning self.old) place added result (meaning self.new) };
 
     // Makes every place none.
     fn clear(&mut self)
-        requires { kept self.old }
-        ensures kept { kept self.new }
         ensures cleared { Cleared L.Label.kind (meaning self.old) (meaning self.new) };
 
     // The first place from `from` up to `to` that is not none. A board may write its own, for speed.
     fn next_some(&self, from: usize, to: usize) -> Option<usize>
-        requires { kept self.now }
         ensures { NextSome L.Label.kind (meaning self.now) from to result }
     {
         for place in from..to {

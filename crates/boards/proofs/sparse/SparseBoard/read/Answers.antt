@@ -1,27 +1,22 @@
-use Rattle.std.proofs.Common.{sym, ap, ◌∙◌, arith}
+use Rattle.std.proofs.Common.{Some, None, sym, ap, ◌∙◌}
+use Rattle.std.proofs.lemmas.List.{get_or_default}
 use Rattle.boards.specs.Sparse.{used_entries}
-use Rattle.boards.proofs.Entries.{entered_past, entered_absent, label_in_use}
+use Rattle.boards.proofs.Entries.{first_entry, entered_past, entered_absent, label_in_use, in_use}
 use Rattle.boards.proofs.sparse.SparseBoard.read.Goals as goal
 
-pub returns-then-place-self : goal.returns-then-place-self
-returns-then-place-self g c =
-    let k = g.L.Label.kind in
+pub returns-then-place-self-clause-the_label : goal.returns-then-place-self-clause-the_label
+returns-then-place-self-clause-the_label g c =
     let board = c.args.self.now in
-    record {
-      the_label = c.none.ensures ∙ sym (entered_past k board.size (used_entries board) c.args.place c.if-place-self.true c.requires.apart);
-      none_past_the_size = λ past. ap k.number c.none.ensures ∙ g.L.Label.laws.none_number;
-    }
+    c.none.ensures ∙ sym (entered_past g.L.Label.kind board.size (used_entries board) c.args.place c.if-place-self.true board.sound.apart)
 
-pub returns-in-Some : goal.returns-in-Some
-returns-in-Some g c =
+pub returns-in-Some-clause-the_label : goal.returns-in-Some-clause-the_label
+returns-in-Some-clause-the_label g c =
     let board = c.args.self.now in
-    record {
-      the_label = label_in_use g.L.Label.kind board.entries.now board.used c.in-Some.at c.args.place c.entry_label.result c.requires.count_fits c.in-Some.ensures c.entry_label.ensures;
-      none_past_the_size = λ past. absurd (omega (arith, past));
-    }
+    let first = first_entry g.L.Label.kind.none (used_entries board) c.args.place (Some c.in-Some.at) c.in-Some.ensures in
+    label_in_use g.L.Label.kind board.entries.now board.used c.in-Some.at c.args.place _ board.sound.count_fits first
+    (λ blank. ap (λ e. e.label) (get_or_default board.entries.now c.in-Some.at c.index-self-at.result blank (in_use board.entries.now board.used c.in-Some.at board.sound.count_fits first.0)))
 
-pub returns-in-None : goal.returns-in-None
-returns-in-None g c = record {
-  the_label = c.none-in-None.ensures ∙ sym (entered_absent g.L.Label.kind (used_entries c.args.self.now) c.args.place c.in-None.ensures);
-  none_past_the_size = λ past. absurd (omega (arith, past));
-}
+pub returns-in-None-clause-the_label : goal.returns-in-None-clause-the_label
+returns-in-None-clause-the_label g c =
+    let board = c.args.self.now in
+    c.none-in-None.ensures ∙ sym (entered_absent g.L.Label.kind (used_entries board) c.args.place (first_entry g.L.Label.kind.none (used_entries board) c.args.place None c.in-None.ensures))
