@@ -10,6 +10,7 @@ ghost use Rattle.settling.specs.Turn.{Ready, Gained, Applied, AppliedAt, Applied
 
 use boards::Board;
 use labels::Label;
+use terms::forms::Form;
 use terms::{Concept, Node, Refusal, Role, Sentence, Sizes};
 
 // Brings the board to the least labels that satisfy the rules of the sentences.
@@ -18,8 +19,6 @@ pub fn settle<L: Label, B: Board<L>>(
     sentences: &[Sentence<L>],
     board: &mut B,
 ) -> Result<(), Refusal>
-    requires { B.Board.kept board.old }
-    ensures kept { B.Board.kept board.new }
     ensures settles { Settles L.Label.kind sizes sentences.now (B.Board.meaning board.old) result (B.Board.meaning board.new) }
 {
     if sizes.is_outside_limits() {
@@ -45,12 +44,9 @@ pub fn settle<L: Label, B: Board<L>>(
 fn all_well_formed<L: Label>(sizes: Sizes, sentences: &[Sentence<L>]) -> bool
     ensures { result ≡ each (well_formed sizes) sentences.now }
 {
-    for sentence in sentences {
-        if !sentence.is_well_formed(sizes) {
-            return false;
-        }
-    }
-    true
+    sentences
+        .iter()
+        .all(|sentence| sentence.is_well_formed(sizes))
 }
 
 // From a cleared board: tops, selves, then rounds until one brings nothing.
@@ -59,10 +55,8 @@ fn fill<L: Label, B: Board<L>>(
     sentences: &[Sentence<L>],
     board: &mut B,
 ) -> Result<(), Refusal>
-    requires kept { B.Board.kept board.old }
     requires ready { Ready sizes sentences.now (B.Board.meaning board.old) }
     requires none { (p : ℕ) → L.Label.kind.number ((B.Board.meaning board.old).label p) ≡ 0 }
-    ensures kept { B.Board.kept board.new }
     ensures filled { Filled L.Label.kind sizes sentences.now (B.Board.meaning board.old) result (B.Board.meaning board.new) }
 {
     tops(sizes, board)?;
@@ -73,9 +67,7 @@ fn fill<L: Label, B: Board<L>>(
 
 // Top: every node is in concept 0, in every view.
 fn tops<L: Label, B: Board<L>>(sizes: Sizes, board: &mut B) -> Result<(), Refusal>
-    requires kept { B.Board.kept board.old }
     requires ready { Ready sizes [] (B.Board.meaning board.old) }
-    ensures kept { B.Board.kept board.new }
     ensures seeds { Seeds L.Label.kind sizes (λ x. member x 0) (nodes sizes) (B.Board.meaning board.old) result (B.Board.meaning board.new) }
 {
     for number in 0..sizes.nodes() {
@@ -90,9 +82,7 @@ fn tops<L: Label, B: Board<L>>(sizes: Sizes, board: &mut B) -> Result<(), Refusa
 
 // Self: every concept is in itself, in every view.
 fn selves<L: Label, B: Board<L>>(sizes: Sizes, board: &mut B) -> Result<(), Refusal>
-    requires kept { B.Board.kept board.old }
     requires ready { Ready sizes [] (B.Board.meaning board.old) }
-    ensures kept { B.Board.kept board.new }
     ensures seeds { Seeds L.Label.kind sizes (λ x. member x x) sizes.concepts (B.Board.meaning board.old) result (B.Board.meaning board.new) }
 {
     for concept in 0..sizes.concepts {
@@ -111,9 +101,7 @@ fn round<L: Label, B: Board<L>>(
     sentences: &[Sentence<L>],
     board: &mut B,
 ) -> Result<bool, Refusal>
-    requires kept { B.Board.kept board.old }
     requires ready { Ready sizes sentences.now (B.Board.meaning board.old) }
-    ensures kept { B.Board.kept board.new }
     ensures applied { AppliedAll L.Label.kind sizes sentences.now (B.Board.meaning board.old) result (B.Board.meaning board.new) }
 {
     let mut grew = false;
@@ -129,14 +117,12 @@ fn apply<L: Label, B: Board<L>>(
     sentence: Sentence<L>,
     board: &mut B,
 ) -> Result<bool, Refusal>
-    requires kept { B.Board.kept board.old }
     requires ready { Ready sizes (sentence ∷ []) (B.Board.meaning board.old) }
-    ensures kept { B.Board.kept board.new }
     ensures applied { Applied L.Label.kind sizes sentence (B.Board.meaning board.old) result (B.Board.meaning board.new) }
 {
-    match sentence.form {
-        5 => concept_assertion(sizes, sentence, board),
-        6 => role_assertion(sizes, sentence, board),
+    match Form::try_from(sentence.form) {
+        Ok(Form::ConceptAssertion) => concept_assertion(sizes, sentence, board),
+        Ok(Form::RoleAssertion) => role_assertion(sizes, sentence, board),
         _ => at_nodes(sizes, sentence, board),
     }
 }
@@ -147,10 +133,8 @@ fn at_nodes<L: Label, B: Board<L>>(
     sentence: Sentence<L>,
     board: &mut B,
 ) -> Result<bool, Refusal>
-    requires kept { B.Board.kept board.old }
     requires ready { Ready sizes (sentence ∷ []) (B.Board.meaning board.old) }
     requires of_nodes { (sentence.form ≢ 5) × (sentence.form ≢ 6) }
-    ensures kept { B.Board.kept board.new }
     ensures applied { Applied L.Label.kind sizes sentence (B.Board.meaning board.old) result (B.Board.meaning board.new) }
 {
     let mut grew = false;
@@ -167,17 +151,15 @@ fn at_node<L: Label, B: Board<L>>(
     node: Node,
     board: &mut B,
 ) -> Result<bool, Refusal>
-    requires kept { B.Board.kept board.old }
     requires ready { Ready sizes (sentence ∷ []) (B.Board.meaning board.old) }
     requires node { node.0 < nodes sizes }
-    ensures kept { B.Board.kept board.new }
     ensures applied { AppliedAt L.Label.kind sizes sentence node.0 (B.Board.meaning board.old) result (B.Board.meaning board.new) }
 {
-    match sentence.form {
-        1 => inclusion(sizes, sentence, node, board),
-        2 => conjunction(sizes, sentence, node, board),
-        3 => existential_on_right(sizes, sentence, node, board),
-        4 => existential_on_left(sizes, sentence, node, board),
+    match Form::try_from(sentence.form) {
+        Ok(Form::Inclusion) => inclusion(sizes, sentence, node, board),
+        Ok(Form::Conjunction) => conjunction(sizes, sentence, node, board),
+        Ok(Form::ExistentialOnRight) => existential_on_right(sizes, sentence, node, board),
+        Ok(Form::ExistentialOnLeft) => existential_on_left(sizes, sentence, node, board),
         _ => Ok(false),
     }
 }
@@ -189,11 +171,9 @@ fn inclusion<L: Label, B: Board<L>>(
     node: Node,
     board: &mut B,
 ) -> Result<bool, Refusal>
-    requires kept { B.Board.kept board.old }
     requires ready { Ready sizes (sentence ∷ []) (B.Board.meaning board.old) }
     requires form { sentence.form ≡ 1 }
     requires node { node.0 < nodes sizes }
-    ensures kept { B.Board.kept board.new }
     ensures applied { AppliedAt L.Label.kind sizes sentence node.0 (B.Board.meaning board.old) result (B.Board.meaning board.new) }
 {
     let first = board.read(sizes.member_place(node, Concept(sentence.first)));
@@ -208,11 +188,9 @@ fn conjunction<L: Label, B: Board<L>>(
     node: Node,
     board: &mut B,
 ) -> Result<bool, Refusal>
-    requires kept { B.Board.kept board.old }
     requires ready { Ready sizes (sentence ∷ []) (B.Board.meaning board.old) }
     requires form { sentence.form ≡ 2 }
     requires node { node.0 < nodes sizes }
-    ensures kept { B.Board.kept board.new }
     ensures applied { AppliedAt L.Label.kind sizes sentence node.0 (B.Board.meaning board.old) result (B.Board.meaning board.new) }
 {
     let first = board.read(sizes.member_place(node, Concept(sentence.first)));
@@ -228,11 +206,9 @@ fn existential_on_right<L: Label, B: Board<L>>(
     node: Node,
     board: &mut B,
 ) -> Result<bool, Refusal>
-    requires kept { B.Board.kept board.old }
     requires ready { Ready sizes (sentence ∷ []) (B.Board.meaning board.old) }
     requires form { sentence.form ≡ 3 }
     requires node { node.0 < nodes sizes }
-    ensures kept { B.Board.kept board.new }
     ensures applied { AppliedAt L.Label.kind sizes sentence node.0 (B.Board.meaning board.old) result (B.Board.meaning board.new) }
 {
     let first = board.read(sizes.member_place(node, Concept(sentence.first)));
@@ -247,11 +223,9 @@ fn existential_on_left<L: Label, B: Board<L>>(
     node: Node,
     board: &mut B,
 ) -> Result<bool, Refusal>
-    requires kept { B.Board.kept board.old }
     requires ready { Ready sizes (sentence ∷ []) (B.Board.meaning board.old) }
     requires form { sentence.form ≡ 4 }
     requires node { node.0 < nodes sizes }
-    ensures kept { B.Board.kept board.new }
     ensures applied { AppliedAt L.Label.kind sizes sentence node.0 (B.Board.meaning board.old) result (B.Board.meaning board.new) }
 {
     let start = sizes.link_place(node, Role(sentence.role), Node(0));
@@ -274,11 +248,9 @@ fn through_link<L: Label, B: Board<L>>(
     other: Node,
     board: &mut B,
 ) -> Result<bool, Refusal>
-    requires kept { B.Board.kept board.old }
     requires ready { Ready sizes (sentence ∷ []) (B.Board.meaning board.old) }
     requires form { sentence.form ≡ 4 }
     requires nodes { (node.0 < nodes sizes) × (other.0 < nodes sizes) }
-    ensures kept { B.Board.kept board.new }
     ensures applied { AppliedThrough L.Label.kind sizes sentence node.0 other.0 (B.Board.meaning board.old) result (B.Board.meaning board.new) }
 {
     let linked = board.read(sizes.link_place(node, Role(sentence.role), other));
@@ -293,10 +265,8 @@ fn concept_assertion<L: Label, B: Board<L>>(
     sentence: Sentence<L>,
     board: &mut B,
 ) -> Result<bool, Refusal>
-    requires kept { B.Board.kept board.old }
     requires ready { Ready sizes (sentence ∷ []) (B.Board.meaning board.old) }
     requires form { sentence.form ≡ 5 }
-    ensures kept { B.Board.kept board.new }
     ensures applied { Applied L.Label.kind sizes sentence (B.Board.meaning board.old) result (B.Board.meaning board.new) }
 {
     let unit = Node(sizes.concepts + sentence.first);
@@ -310,10 +280,8 @@ fn role_assertion<L: Label, B: Board<L>>(
     sentence: Sentence<L>,
     board: &mut B,
 ) -> Result<bool, Refusal>
-    requires kept { B.Board.kept board.old }
     requires ready { Ready sizes (sentence ∷ []) (B.Board.meaning board.old) }
     requires form { sentence.form ≡ 6 }
-    ensures kept { B.Board.kept board.new }
     ensures applied { Applied L.Label.kind sizes sentence (B.Board.meaning board.old) result (B.Board.meaning board.new) }
 {
     let unit = Node(sizes.concepts + sentence.first);
@@ -324,8 +292,6 @@ fn role_assertion<L: Label, B: Board<L>>(
 
 // Puts the label unless it brings nothing; true where the board grew.
 fn gain<L: Label, B: Board<L>>(place: usize, added: L, board: &mut B) -> Result<bool, Refusal>
-    requires { B.Board.kept board.old }
-    ensures kept { B.Board.kept board.new }
     ensures gained { Gained L.Label.kind (B.Board.meaning board.old) place added result (B.Board.meaning board.new) }
 {
     let old = board.read(place);

@@ -6,6 +6,5 @@ abbrev pub invariant-loop-number : goal.invariant-loop-number
 invariant-loop-number g l =
     let k = g.L.Label.kind in
     let b = g.B.Board in
-    b.kept l.board
-    × Turn k l.sizes (l.sentence ∷ []) (λ label. (x : ℕ) → x < l.number → AtNode k l.sizes l.sentence x label)
+    Turn k l.sizes (l.sentence ∷ []) (λ label. (x : ℕ) → x < l.number → AtNode k l.sizes l.sentence x label)
     (b.meaning l.initial.board) (b.meaning l.board) l.grew

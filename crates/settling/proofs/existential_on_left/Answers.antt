@@ -8,7 +8,7 @@ pub returns-in_err-grew : goal.returns-in_err-grew
 returns-in_err-grew g c =
     let done = c.in_err-grew.ensures in
     let left = left_by c.from_residual.result c.in_err-grew.field-0.0 c.from_residual.ensures.1 in
-    rw left (record { kept = done.kept; applied = (done.applied.0, refused_then {new = g.B.Board.meaning c.through_link.new.board} c.loop-place.invariant.2.grown done.applied.1) })
+    rw left (record { applied = (done.applied.0, refused_then {new = g.B.Board.meaning c.through_link.new.board} c.loop-place.invariant.1.grown done.applied.1) })
 
 pub loop-place-preserved : goal.loop-place-preserved
 loop-place-preserved g c =
@@ -17,10 +17,9 @@ loop-place-preserved g c =
     let start = c.link_place-start in
     let next = c.in-Some.ensures in
     let done = c.in_ok-grew.ensures in (
-      done.kept,
-      omega (arith, l.invariant.1, next.0),
+      omega (arith, l.invariant.0, next.0),
       links_more g.L.Label.laws c.args.sizes c.args.sentence (ready_sound c.requires.ready) c.args.node.0 start.result start.ensures
-          (b.meaning l.board) l.from c.in-Some.place l.invariant.1 next.3 l.invariant.2 (b.meaning c.through_link.new.board) next.0
+          (b.meaning l.board) l.from c.in-Some.place l.invariant.0 next.3 l.invariant.1 (b.meaning c.through_link.new.board) next.0
           done.applied,
     )
 
@@ -29,7 +28,6 @@ returns g c =
     let l = c.loop-place in
     let start = c.link_place-start in
     record {
-      kept = l.invariant.0;
       applied = links_all g.L.Label.laws c.args.sizes c.args.sentence (ready_sound c.requires.ready) c.args.node.0 start.result start.ensures
-          (g.B.Board.meaning l.board) l.from (start.result + c.nodes.result) l.invariant.1 c.in_default.ensures l.invariant.2 (ap (λ n. start.result + n) c.nodes.ensures) c.requires.form;
+          (g.B.Board.meaning l.board) l.from (start.result + c.nodes.result) l.invariant.0 c.in_default.ensures l.invariant.1 (ap (λ n. start.result + n) c.nodes.ensures) c.requires.form;
     }

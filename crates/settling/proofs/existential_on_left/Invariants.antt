@@ -6,8 +6,7 @@ abbrev pub invariant-loop-place : goal.invariant-loop-place
 invariant-loop-place g l =
     let k = g.L.Label.kind in
     let b = g.B.Board in
-    b.kept l.board
-    × (l.start ≤ l.from)
+    (l.start ≤ l.from)
     × Turn k l.sizes (l.sentence ∷ []) (λ label. (y : ℕ) → y < l.from - l.start → AtLink k l.sizes l.sentence l.node.0 y label)
     (b.meaning l.initial.board) (b.meaning l.board) l.grew
 

@@ -5,7 +5,6 @@ pub returns : goal.returns
 returns g c =
     let b = g.B.Board in
     record {
-      kept = c.gain.ensures.kept;
       applied = inclusion_turn g.L.Label.laws c.args.sizes c.args.sentence (b.meaning c.args.board.now) (b.meaning c.gain.new.board)
           c.requires.ready c.args.node.0 c.requires.node c.requires.form
           c.gain.result c.member_place-third.result c.both.result c.member_place-third.ensures (cc) c.gain.ensures.gained;

@@ -11,8 +11,7 @@ apply-requires g c =
     let l = c.loop-sentence in
     let s = c.sentence-item in
     record {
-      kept = l.invariant.0;
-      ready = ready_one (ready_still c.requires.ready (g.B.Board.meaning l.board) l.invariant.1.grown.size)
+      ready = ready_one (ready_still c.requires.ready (g.B.Board.meaning l.board) l.invariant.grown.size)
           s.result (at_in c.args.sentences.now l.sentence-index s.result c.loop-sentence-test.true s.is);
     }
 
@@ -25,11 +24,10 @@ returns-in_err-grew g c =
     let left = left_by c.from_residual.result c.in_err-grew.field-0.0 c.from_residual.ensures.1 in
     rw left
     (record {
-      kept = done.kept;
       applied = (
         done.applied.0,
         round_refused c.args.sentences.now l.sentence-index s.result c.loop-sentence-test.true s.is
-            (b.meaning l.board) (b.meaning c.apply.new.board) l.invariant.1 done.applied.1,
+            (b.meaning l.board) (b.meaning c.apply.new.board) l.invariant done.applied.1,
       );
     })
 
@@ -38,18 +36,15 @@ loop-sentence-preserved g c =
     let b = g.B.Board in
     let l = c.loop-sentence in
     let s = c.sentence-item in
-    let done = c.in_ok-grew.ensures in (
-      done.kept,
-      round_more c.args.sentences.now l.sentence-index s.result c.loop-sentence-test.true s.is
-          (b.meaning l.board) (b.meaning c.apply.new.board) l.invariant.1 done.applied,
-    )
+    let done = c.in_ok-grew.ensures in
+    round_more c.args.sentences.now l.sentence-index s.result c.loop-sentence-test.true s.is
+          (b.meaning l.board) (b.meaning c.apply.new.board) l.invariant done.applied
 
 pub returns : goal.returns
 returns g c =
     record {
-      kept = c.loop-sentence.invariant.0;
       applied = turn_as (λ s i. i)
           (λ label. subst (λ ss. ObeysAll g.L.Label.kind c.args.sizes ss label)
           (take_all c.loop-sentence.sentence-index c.args.sentences.now c.loop-sentence-test.false))
-          c.loop-sentence.invariant.1;
+          c.loop-sentence.invariant;
     }

@@ -6,6 +6,5 @@ abbrev pub invariant-loop-sentence : goal.invariant-loop-sentence
 invariant-loop-sentence g l =
     let k = g.L.Label.kind in
     let b = g.B.Board in
-    b.kept l.board
-    × Turn k l.sizes l.sentences (ObeysAll k l.sizes (take l.sentence-index l.sentences))
+    Turn k l.sizes l.sentences (ObeysAll k l.sizes (take l.sentence-index l.sentences))
     (b.meaning l.initial.board) (b.meaning l.board) l.grew

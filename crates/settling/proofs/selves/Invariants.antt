@@ -5,4 +5,4 @@ use Rattle.settling.proofs.selves.Given as goal
 abbrev pub invariant-loop-concept : goal.invariant-loop-concept
 invariant-loop-concept g l =
     let b = g.B.Board in
-    b.kept l.board × Seeded g.L.Label.kind l.sizes (λ x. member x x) l.concept (b.meaning l.initial.board) (b.meaning l.board)
+    Seeded g.L.Label.kind l.sizes (λ x. member x x) l.concept (b.meaning l.initial.board) (b.meaning l.board)
