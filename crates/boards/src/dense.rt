@@ -51,7 +51,7 @@ impl<'a, L: Label> Board<L> for Dense<'a, L> {
         clear_cells(self.cells);
     }
 
-    // The search stops at the last cell.
+    // The search stops at the last cell. By place: a chain over the cells from `from` on would first have to test that they reach so far.
     fn next_some(&self, from: usize, to: usize) -> Option<usize> {
         for place in from..to.min(self.cells.len()) {
             if self.cells[place].number() != 0 {

@@ -1,16 +1,17 @@
 -- Where settling ends: the settled labels, or a board that cannot hold them. Assumes nothing.
-use Rattle.std.proofs.Common.{◌≡◌, ℕ, ◌≤◌, Bool, false, eqb, List, sym, subst, arith}
-use Rattle.std.proofs.lemmas.Bool.{eqb-false, eq-eqb, not-true, not_from_true}
+use Rattle.std.proofs.Common.{◌≡◌, ℕ, ◌≤◌, Bool, true, false, eqb, List, Ok, Err, Result, is_err, sym, refl, ◌∙◌, subst, arith}
+use Rattle.std.proofs.lemmas.Bool.{both_ways, eqb-false, eq-eqb, not-true, not_from_true}
 use Rattle.labels.specs.Kind.{Kind, Lawful, some_view}
 use Rattle.terms.specs.declared.Sizes.{Sizes}
 use Rattle.terms.specs.declared.Sentence.{Sentence}
+use Rattle.terms.specs.declared.Refusal.{Refusal}
 use Rattle.terms.specs.Lists.{◌∈◌}
 use Rattle.terms.specs.Places.{nodes, place, member}
 use Rattle.theory.specs.Rules.{Satisfies, Overfull}
 use Rattle.theory.proofs.Labels.{inside}
 use Rattle.boards.specs.Meaning.{Meaning, occupied, Cleared}
-use Rattle.settling.specs.Settled.{label_on, Brought}
-use Rattle.settling.specs.Turn.{Ready, Justified, Grown, Turn, Refused, Obeys, ObeysAll, Seeded}
+use Rattle.settling.specs.Settled.{BroughtOrShort, label_on, Brought}
+use Rattle.settling.specs.Turn.{Filled, Ready, Justified, Grown, Turn, Refused, Obeys, ObeysAll, Seeded}
 use Rattle.terms.proofs.Counting.{count_past}
 use Rattle.labels.proofs.Views.{not_none}
 use Rattle.settling.proofs.Readiness.{ready_sound, all_in}
@@ -83,3 +84,20 @@ pub too_many :
     → Cleared k old cleared → Refused k z ss cleared filled → Overfull k z ss old.capacity
 too_many {k = k} laws z ss old cleared filled clear refused =
     subst (Overfull k z ss) clear.capacity (refused.overfull ss (λ s i. i) (none_justified laws z ss cleared clear.none))
+
+-- a refused filling leaves the board cleared once more
+pub left_short :
+    {L : Type 0} {k : Kind L} (laws : Lawful k) (z : Sizes) (ss : List (Sentence L)) (old cleared filled new : Meaning L) (r : Result (Unit {0}) Refusal)
+    → is_err r ≡ true → Cleared k old cleared → Filled k z ss cleared r filled → Cleared k filled new → BroughtOrShort k z ss old r new
+left_short laws z ss old cleared filled new (Ok u) fails clear done again = absurd (both_ways false refl fails)
+left_short laws z ss old cleared filled new (Err e) fails clear done again = (
+  done.0,
+  record {
+    too_many = too_many laws z ss old cleared filled clear done.1;
+    board = record {
+      size = again.size ∙ done.1.size ∙ clear.size;
+      capacity = again.capacity ∙ done.1.capacity ∙ clear.capacity;
+      none = again.none;
+    };
+  },
+)

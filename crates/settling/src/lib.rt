@@ -31,13 +31,11 @@ pub fn settle<L: Label, B: Board<L>>(
         return Err(Refusal::TooFewPlaces);
     }
     board.clear();
-    match fill(sizes, sentences, board) {
-        Ok(()) => Ok(()),
-        Err(_) => {
-            board.clear();
-            Err(Refusal::BoardFull)
-        }
+    let filled = fill(sizes, sentences, board);
+    if filled.is_err() {
+        board.clear();
     }
+    filled
 }
 
 // Whether every sentence is one for these sizes.
@@ -49,7 +47,8 @@ fn all_well_formed<L: Label>(sizes: Sizes, sentences: &[Sentence<L>]) -> bool
         .all(|sentence| sentence.is_well_formed(sizes))
 }
 
-// From a cleared board: tops, selves, then rounds until one brings nothing.
+// From a cleared board: tops, selves, then rounds until one brings nothing. Sizes, sentence and board go on as arguments: of a struct round
+// them each part would have to say besides that its sizes and its board's place are as they were.
 fn fill<L: Label, B: Board<L>>(
     sizes: Sizes,
     sentences: &[Sentence<L>],
@@ -80,7 +79,7 @@ fn tops<L: Label, B: Board<L>>(sizes: Sizes, board: &mut B) -> Result<(), Refusa
     Ok(())
 }
 
-// Self: every concept is in itself, in every view.
+// Self: every concept is in itself, in every view. Apart from `tops`: one loop for both would take a closure, with a clause on it longer than this.
 fn selves<L: Label, B: Board<L>>(sizes: Sizes, board: &mut B) -> Result<(), Refusal>
     requires ready { Ready sizes [] (B.Board.meaning board.old) }
     ensures seeds { Seeds L.Label.kind sizes (λ x. member x x) sizes.concepts (B.Board.meaning board.old) result (B.Board.meaning board.new) }

@@ -12,7 +12,7 @@ returns-in_err-grew g c =
 pub loop-number-preserved : goal.loop-number-preserved
 loop-number-preserved g c =
     turn_next (AtNode g.L.Label.kind c.args.sizes c.args.sentence) {new = g.B.Board.meaning c.at_node.new.board}
-        c.loop-number.invariant c.in_ok-grew.ensures.applied
+    c.loop-number.invariant c.in_ok-grew.ensures.applied
 
 pub returns : goal.returns
 returns g c =

@@ -38,7 +38,7 @@ loop-sentence-preserved g c =
     let s = c.sentence-item in
     let done = c.in_ok-grew.ensures in
     round_more c.args.sentences.now l.sentence-index s.result c.loop-sentence-test.true s.is
-          (b.meaning l.board) (b.meaning c.apply.new.board) l.invariant done.applied
+    (b.meaning l.board) (b.meaning c.apply.new.board) l.invariant done.applied
 
 pub returns : goal.returns
 returns g c =

@@ -26,5 +26,5 @@ loop-concept-preserved g c =
     let done = c.in_ok-gain.ensures in
     let below : l.concept < c.args.sizes.concepts = omega (arith, c.loop-concept-test.true) in
     seed_more g.L.Label.laws (λ x. member x x) l.concept (omega (arith, below), below) (λ ss. self below)
-          (b.meaning l.board) (b.meaning c.gain.new.board) c.requires.ready l.invariant
-          c.member_place.result c.all.result c.member_place.ensures c.all.ensures c.in_ok-gain.field-0 done.gained
+    (b.meaning l.board) (b.meaning c.gain.new.board) c.requires.ready l.invariant
+    c.member_place.result c.all.result c.member_place.ensures c.all.ensures c.in_ok-gain.field-0 done.gained

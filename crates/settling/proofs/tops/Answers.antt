@@ -27,5 +27,5 @@ loop-number-preserved g c =
     let done = c.in_ok-gain.ensures in
     let below : l.number < nodes c.args.sizes = omega (arith, c.loop-number-test.true, c.nodes-number-end.ensures) in
     seed_more g.L.Label.laws (λ x. member x 0) l.number (below, (ready_sound c.requires.ready).has_top) (λ ss. top below)
-          (b.meaning l.board) (b.meaning c.gain.new.board) c.requires.ready l.invariant
-          c.member_place.result c.all.result c.member_place.ensures c.all.ensures c.in_ok-gain.field-0 done.gained
+    (b.meaning l.board) (b.meaning c.gain.new.board) c.requires.ready l.invariant
+    c.member_place.result c.all.result c.member_place.ensures c.all.ensures c.in_ok-gain.field-0 done.gained
