@@ -120,8 +120,19 @@ fn apply<L: Label, B: Board<L>>(
     ensures applied { Applied L.Label.kind sizes sentence (B.Board.meaning board.old) result (B.Board.meaning board.new) }
 {
     match Form::try_from(sentence.form) {
-        Ok(Form::ConceptAssertion) => concept_assertion(sizes, sentence, board),
-        Ok(Form::RoleAssertion) => role_assertion(sizes, sentence, board),
+        // Unit first is a third.
+        Ok(Form::ConceptAssertion) => {
+            let unit = Node(sizes.concepts + sentence.first);
+            let third = sizes.member_place(unit, Concept(sentence.third));
+            gain(third, sentence.label, board)
+        }
+        // Unit first has a role-link to unit third.
+        Ok(Form::RoleAssertion) => {
+            let unit = Node(sizes.concepts + sentence.first);
+            let other = Node(sizes.concepts + sentence.third);
+            let link = sizes.link_place(unit, Role(sentence.role), other);
+            gain(link, sentence.label, board)
+        }
         _ => at_nodes(sizes, sentence, board),
     }
 }
@@ -154,65 +165,30 @@ fn at_node<L: Label, B: Board<L>>(
     requires node { node.0 < nodes sizes }
     ensures applied { AppliedAt L.Label.kind sizes sentence node.0 (B.Board.meaning board.old) result (B.Board.meaning board.new) }
 {
+    let first = sizes.member_place(node, Concept(sentence.first));
+    let third = sizes.member_place(node, Concept(sentence.third));
     match Form::try_from(sentence.form) {
-        Ok(Form::Inclusion) => inclusion(sizes, sentence, node, board),
-        Ok(Form::Conjunction) => conjunction(sizes, sentence, node, board),
-        Ok(Form::ExistentialOnRight) => existential_on_right(sizes, sentence, node, board),
+        // Every first is a third.
+        Ok(Form::Inclusion) => {
+            let first = board.read(first);
+            gain(third, sentence.label.both(first), board)
+        }
+        // Whatever is a first and a second is a third.
+        Ok(Form::Conjunction) => {
+            let first = board.read(first);
+            let second = board.read(sizes.member_place(node, Concept(sentence.second)));
+            gain(third, sentence.label.both(first.both(second)), board)
+        }
+        // Every first has a role-link to some third.
+        Ok(Form::ExistentialOnRight) => {
+            let first = board.read(first);
+            let link = sizes.link_place(node, Role(sentence.role), Node(sentence.third));
+            gain(link, sentence.label.both(first), board)
+        }
+        // Whatever has a role-link to some first is a third.
         Ok(Form::ExistentialOnLeft) => existential_on_left(sizes, sentence, node, board),
         _ => Ok(false),
     }
-}
-
-// Form 1: every first is a third.
-fn inclusion<L: Label, B: Board<L>>(
-    sizes: Sizes,
-    sentence: Sentence<L>,
-    node: Node,
-    board: &mut B,
-) -> Result<bool, Refusal>
-    requires ready { Ready sizes (sentence ∷ []) (B.Board.meaning board.old) }
-    requires form { sentence.form ≡ 1 }
-    requires node { node.0 < nodes sizes }
-    ensures applied { AppliedAt L.Label.kind sizes sentence node.0 (B.Board.meaning board.old) result (B.Board.meaning board.new) }
-{
-    let first = board.read(sizes.member_place(node, Concept(sentence.first)));
-    let third = sizes.member_place(node, Concept(sentence.third));
-    gain(third, sentence.label.both(first), board)
-}
-
-// Form 2: whatever is a first and a second is a third.
-fn conjunction<L: Label, B: Board<L>>(
-    sizes: Sizes,
-    sentence: Sentence<L>,
-    node: Node,
-    board: &mut B,
-) -> Result<bool, Refusal>
-    requires ready { Ready sizes (sentence ∷ []) (B.Board.meaning board.old) }
-    requires form { sentence.form ≡ 2 }
-    requires node { node.0 < nodes sizes }
-    ensures applied { AppliedAt L.Label.kind sizes sentence node.0 (B.Board.meaning board.old) result (B.Board.meaning board.new) }
-{
-    let first = board.read(sizes.member_place(node, Concept(sentence.first)));
-    let second = board.read(sizes.member_place(node, Concept(sentence.second)));
-    let third = sizes.member_place(node, Concept(sentence.third));
-    gain(third, sentence.label.both(first.both(second)), board)
-}
-
-// Form 3: every first has a role-link to some third.
-fn existential_on_right<L: Label, B: Board<L>>(
-    sizes: Sizes,
-    sentence: Sentence<L>,
-    node: Node,
-    board: &mut B,
-) -> Result<bool, Refusal>
-    requires ready { Ready sizes (sentence ∷ []) (B.Board.meaning board.old) }
-    requires form { sentence.form ≡ 3 }
-    requires node { node.0 < nodes sizes }
-    ensures applied { AppliedAt L.Label.kind sizes sentence node.0 (B.Board.meaning board.old) result (B.Board.meaning board.new) }
-{
-    let first = board.read(sizes.member_place(node, Concept(sentence.first)));
-    let link = sizes.link_place(node, Role(sentence.role), Node(sentence.third));
-    gain(link, sentence.label.both(first), board)
 }
 
 // Form 4: whatever has a role-link to some first is a third. It steps through the node's links along the role.
@@ -256,37 +232,6 @@ fn through_link<L: Label, B: Board<L>>(
     let first = board.read(sizes.member_place(other, Concept(sentence.first)));
     let third = sizes.member_place(node, Concept(sentence.third));
     gain(third, sentence.label.both(linked.both(first)), board)
-}
-
-// Form 5: unit first is a third.
-fn concept_assertion<L: Label, B: Board<L>>(
-    sizes: Sizes,
-    sentence: Sentence<L>,
-    board: &mut B,
-) -> Result<bool, Refusal>
-    requires ready { Ready sizes (sentence ∷ []) (B.Board.meaning board.old) }
-    requires form { sentence.form ≡ 5 }
-    ensures applied { Applied L.Label.kind sizes sentence (B.Board.meaning board.old) result (B.Board.meaning board.new) }
-{
-    let unit = Node(sizes.concepts + sentence.first);
-    let third = sizes.member_place(unit, Concept(sentence.third));
-    gain(third, sentence.label, board)
-}
-
-// Form 6: unit first has a role-link to unit third.
-fn role_assertion<L: Label, B: Board<L>>(
-    sizes: Sizes,
-    sentence: Sentence<L>,
-    board: &mut B,
-) -> Result<bool, Refusal>
-    requires ready { Ready sizes (sentence ∷ []) (B.Board.meaning board.old) }
-    requires form { sentence.form ≡ 6 }
-    ensures applied { Applied L.Label.kind sizes sentence (B.Board.meaning board.old) result (B.Board.meaning board.new) }
-{
-    let unit = Node(sizes.concepts + sentence.first);
-    let other = Node(sizes.concepts + sentence.third);
-    let link = sizes.link_place(unit, Role(sentence.role), other);
-    gain(link, sentence.label, board)
 }
 
 // Puts the label unless it brings nothing; true where the board grew.

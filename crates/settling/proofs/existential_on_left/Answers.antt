@@ -1,14 +1,7 @@
 use Rattle.std.proofs.Common.{◌+◌, ap, arith}
 use Rattle.settling.proofs.Readiness.{ready_sound}
 use Rattle.settling.proofs.Links.{links_all, links_more}
-use Rattle.settling.proofs.Turns.{left_by, refused_then}
 use Rattle.settling.proofs.existential_on_left.Goals as goal
-
-pub returns-in_err-grew : goal.returns-in_err-grew
-returns-in_err-grew g c =
-    let done = c.in_err-grew.ensures in
-    let left = left_by c.from_residual.result c.in_err-grew.field-0.0 c.from_residual.ensures.1 in
-    rw left (record { applied = (done.applied.0, refused_then {new = g.B.Board.meaning c.through_link.new.board} c.loop-place.invariant.1.grown done.applied.1) })
 
 pub loop-place-preserved : goal.loop-place-preserved
 loop-place-preserved g c =

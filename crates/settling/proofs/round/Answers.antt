@@ -1,9 +1,6 @@
-use Rattle.std.proofs.Common.{subst}
-use Rattle.std.proofs.lemmas.List.{take_all}
-use Rattle.settling.specs.Turn.{ObeysAll}
 use Rattle.settling.proofs.Readiness.{ready_still, ready_one, at_in}
 use Rattle.settling.proofs.Rounds.{round_more, round_refused}
-use Rattle.settling.proofs.Turns.{left_by, turn_as}
+use Rattle.settling.proofs.Turns.{left_by}
 use Rattle.settling.proofs.round.Goals as goal
 
 pub apply-requires : goal.apply-requires
@@ -39,12 +36,3 @@ loop-sentence-preserved g c =
     let done = c.in_ok-grew.ensures in
     round_more c.args.sentences.now l.sentence-index s.result c.loop-sentence-test.true s.is
     (b.meaning l.board) (b.meaning c.apply.new.board) l.invariant done.applied
-
-pub returns : goal.returns
-returns g c =
-    record {
-      applied = turn_as (λ s i. i)
-          (λ label. subst (λ ss. ObeysAll g.L.Label.kind c.args.sizes ss label)
-          (take_all c.loop-sentence.sentence-index c.args.sentences.now c.loop-sentence-test.false))
-          c.loop-sentence.invariant;
-    }
