@@ -1,4 +1,3 @@
-pub mod Sound
-pub mod Shifts
-pub mod Accepted
+pub mod Kept
+pub mod Gaps
 pub mod Lent

@@ -1,20 +1,38 @@
 // Books: made blank, sized, entered into, withdrawn from, settled and asked.
 #![tactic(auto)]
 
-ghost use Rattle.std.specs.Prelude.{◌≡◌, ◌+◌, ◌<◌, length};
-ghost use Rattle.books.specs.Contents.{blank_book, Sized, Entered, Withdrawn};
-ghost use Rattle.books.specs.Held.{contents, SameCells, CopiedDown};
-ghost use Rattle.books.specs.Settling.{SettlesBook, Labelled};
+ghost use Rattle.std.specs.Prelude.{◌≡◌, ◌≤◌, true, length, take};
+ghost use Rattle.terms.specs.Sentences.{holdable};
 
 use boards::Board;
 use labels::Label;
 use terms::{Concept, Node, Refusal, Sentence, Sizes};
 
-pub mod book;
+// A book: the field's knowledge base. Its sentences lie in memory of its own, one to a cell.
+// The sizes are within their limits, and the first `count` cells are sentences for them.
+// Each call that takes a book by `&mut` says `SameCells`, since a caller knows the cells only while the book is over the same.
+#[derive(Drop)]
+pub struct Book<'a, L> {
+    cells: &'a mut [Sentence<L>],
+    count: usize,
+    sizes: Sizes,
+    settled: bool,
+    ghost fits: { count ≤ length cells.now },
+    ghost can_be: { holdable (length cells.now) sizes (take count cells.now) ≡ true },
+}
 
-pub use book::Book;
+// One concept, which is top, and no role and no unit.
+const BLANK_SIZES: Sizes = Sizes {
+    concepts: 1,
+    roles: 0,
+    individuals: 0,
+};
 
 impl<'a, L: Label> Book<'a, L> {
+    ghost use Rattle.books.specs.Contents.{blank_book, Sized, Entered, Withdrawn};
+    ghost use Rattle.books.specs.Held.{contents, SameCells};
+    ghost use Rattle.books.specs.Settling.{SettlesBook, Labelled};
+
     // A blank book over the cells given.
     pub fn blank(cells: &'a mut [Sentence<L>]) -> Book<'a, L>
         ensures blank { contents result ≡ blank_book (length cells.old) }
@@ -23,13 +41,19 @@ impl<'a, L: Label> Book<'a, L> {
         Book {
             cells,
             count: 0,
-            sizes: Sizes {
-                concepts: 1,
-                roles: 0,
-                individuals: 0,
-            },
+            sizes: BLANK_SIZES,
             settled: false,
         }
+    }
+
+    // Makes the book blank again.
+    pub fn clear(&mut self)
+        ensures same_cells { SameCells self.old self.new }
+        ensures blank { contents self.new ≡ blank_book (contents self.old).cells }
+    {
+        self.count = 0;
+        self.sizes = BLANK_SIZES;
+        self.settled = false;
     }
 
     // Sets the sizes, and removes all sentences.
@@ -40,9 +64,8 @@ impl<'a, L: Label> Book<'a, L> {
         if sizes.is_outside_limits() {
             return Err(Refusal::SizesOutsideLimits);
         }
-        self.count = 0;
+        self.clear();
         self.sizes = sizes;
-        self.settled = false;
         Ok(())
     }
 
@@ -54,12 +77,11 @@ impl<'a, L: Label> Book<'a, L> {
         if !sentence.is_well_formed(self.sizes) {
             return Err(Refusal::MalformedSentence);
         }
-        let count = self.count;
-        if count >= self.cells.len() {
+        if self.count >= self.cells.len() {
             return Err(Refusal::BookFull);
         }
-        self.cells[count] = sentence;
-        self.count = count + 1;
+        self.cells[self.count] = sentence;
+        self.count += 1;
         self.settled = false;
         Ok(())
     }
@@ -69,56 +91,33 @@ impl<'a, L: Label> Book<'a, L> {
         ensures same_cells { SameCells self.old self.new }
         ensures withdrawn { Withdrawn (contents self.old) number result (contents self.new) }
     {
-        let count = self.count;
-        if number >= count {
+        if number >= self.count {
             return Err(Refusal::OutOfRange);
         }
-        for at in number..count - 1 {
-            self.copy_down(at);
-        }
-        self.count = count - 1;
+        self.cells.copy_within(number + 1..self.count, number);
+        self.count -= 1;
         self.settled = false;
         Ok(())
     }
 
-    // Copies the sentence after one of the first to the place before it.
-    fn copy_down(&mut self, at: usize)
-        requires { at + 1 < self.old.count }
-        ensures same_cells { SameCells self.old self.new }
-        ensures copied { CopiedDown at self.old self.new }
-    {
-        let next = self.sentences()[at + 1];
-        if at < self.cells.len() {
-            self.cells[at] = next;
-        }
-    }
-
     // Brings the board to the least labels that satisfy the rules of the sentences.
     pub fn settle<B: Board<L>>(&mut self, board: &mut B) -> Result<(), Refusal>
-        requires { B.Board.kept board.old }
-        ensures kept { B.Board.kept board.new }
         ensures same_cells { SameCells self.old self.new }
         ensures settles { SettlesBook L.Label.kind (contents self.old) (B.Board.meaning board.old) result (contents self.new) (B.Board.meaning board.new) }
     {
-        match settling::settle(self.sizes, self.sentences(), board) {
-            Ok(()) => {
-                self.settled = true;
-                Ok(())
-            }
-            Err(Refusal::BoardFull) => {
-                self.settled = false;
-                Err(Refusal::BoardFull)
-            }
-            Err(refusal) => Err(refusal),
+        let answer = settling::settle(self.sizes, self.sentences(), board);
+        // A board with too few places is left as it was, and so is the book.
+        if answer != Err(Refusal::TooFewPlaces) {
+            self.settled = answer.is_ok();
         }
+        answer
     }
 
     // The label of a node and a concept on the board given.
     pub fn label<B: Board<L>>(&self, board: &B, node: Node, concept: Concept) -> Result<L, Refusal>
-        requires { B.Board.kept board.now }
         ensures { Labelled L.Label.kind (contents self.now) (B.Board.meaning board.now) node concept result }
     {
-        if node.0 as usize >= self.sizes.nodes() || concept.0 >= self.sizes.concepts {
+        if usize::from(node.0) >= self.sizes.nodes() || concept.0 >= self.sizes.concepts {
             return Err(Refusal::OutOfRange);
         }
         if !self.settled {
@@ -145,6 +144,6 @@ impl<'a, L: Label> Book<'a, L> {
     pub fn sentences(&self) -> &[Sentence<L>]
         ensures { result.now ≡ (contents self.now).sentences }
     {
-        &self.cells[0..self.count]
+        &self.cells[..self.count]
     }
 }
