@@ -1,5 +1,5 @@
 -- Lines of values: each is told from what follows it. Assumes nothing.
-use Rattle.std.proofs.Common.{◌≡◌, ℕ, ◌^◌, ◌<◌, ◌≤◌, true, ltb, List, [], ◌∷◌, ◌++◌, length, get_or, decimal, sym, refl, ap, ◌∙◌, arith}
+use Rattle.std.proofs.Common.{◌≡◌, ℕ, ◌^◌, ◌<◌, ◌≤◌, true, ltb, List, [], ◌∷◌, ◌++◌, length, get_or, drop, decimal, sym, refl, ap, ◌∙◌, arith}
 use Rattle.std.specs.List.{AllByRecursion}
 use Rattle.std.proofs.lemmas.List.{append_assoc, length-append}
 use Rattle.std.proofs.lemmas.Bool.{and_from, and_parts, ltb-true, lt-ltb}
@@ -7,7 +7,12 @@ use Rattle.terms.specs.declared.Sizes.{Sizes}
 use Rattle.terms.specs.declared.Sentence.{Sentence}
 use Rattle.texts.specs.Lines.{values, sizes_line, sentence_line, sizes_fit, sentence_fits}
 use Rattle.texts.specs.Texts.{Opens}
-use Rattle.texts.proofs.Figures.{same_field}
+use Rattle.lines.proofs.Numbers.{same_start}
+
+-- a number and what follows it are determined by the byte that ends it
+same_field : (n m e : ℕ) (xs ys : List ℕ) → n < 2 ^ 64 → m < 2 ^ 64 → e < 48 → decimal n ++ (e ∷ xs) ≡ decimal m ++ (e ∷ ys) → (n ≡ m) × (xs ≡ ys)
+same_field n m e xs ys l k below h =
+    let s = same_start n m (e ∷ xs) (e ∷ ys) l k (λ d. omega (arith, d.0)) (λ d. omega (arith, d.0)) h in (s.0, ap (drop 1) s.1)
 
 -- a line of values with what follows it
 abbrev pub values_onto : ℕ → List ℕ → List ℕ → List ℕ
