@@ -1,5 +1,5 @@
 -- The first three lines of a text: what sizing by them does. Assumes nothing.
-use Rattle.std.proofs.Common.{◌≡◌, ℕ, ◌+◌, ◌≤◌, true, List, [], ◌∷◌, ◌++◌, length, Some, None, Ok, Err, Option, MatchOption, sym, refl, ap, ◌∙◌, subst, arith}
+use Rattle.std.proofs.Common.{◌≡◌, ℕ, true, List, [], ◌++◌, length, Some, None, Ok, Err, Option, MatchOption, sym, refl, ap, ◌∙◌, subst, arith}
 use Rattle.std.specs.Borrow.{Bor}
 use Rattle.std.specs.Option.{ok_or}
 use Rattle.std.proofs.lemmas.List.{length-append, append_assoc}
@@ -8,7 +8,6 @@ use Rattle.terms.specs.declared.Sizes.{Sizes}
 use Rattle.terms.specs.declared.Refusal.{Refusal}
 use Rattle.terms.specs.declared.Refusal.TheVariants.{MalformedLine}
 use Rattle.books.specs.Contents.{Contents, Sized}
-use Rattle.texts.specs.declared.Misread.{Misread}
 use Rattle.texts.specs.Lines.{sizes_header, sizes_line, sizes_fit, sentences_header}
 use Rattle.texts.specs.Texts.{BadLine, sizes_outside, no_sentences_header}
 use Rattle.texts.specs.Parts.{Stopped, SizesRead, ReadsSizes}

@@ -86,10 +86,14 @@ fn read_sizes<'t, L: Label>(book: &mut Book<'_, L>, text: &'t [u8]) -> Result<&'
     ensures same_cells { SameCells book.old book.new }
     ensures reads { ReadsSizes L.Label.kind (contents book.old) text.now result (contents book.new) }
 {
-    let text = text.strip_prefix(b"concepts roles units\n").ok_or(malformed(1))?;
+    let text = text
+        .strip_prefix(b"concepts roles units\n")
+        .ok_or(malformed(1))?;
     let (sizes, text) = sizes_line(text).ok_or(malformed(2))?;
-    book.size(sizes).map_err(|refusal| Misread { refusal, line: 2 })?;
-    text.strip_prefix(b"form first second role third label\n").ok_or(malformed(3))
+    book.size(sizes)
+        .map_err(|refusal| Misread { refusal, line: 2 })?;
+    text.strip_prefix(b"form first second role third label\n")
+        .ok_or(malformed(3))
 }
 
 // Enters a sentence whose label is given by its number.

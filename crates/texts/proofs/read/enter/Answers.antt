@@ -1,4 +1,4 @@
-use Rattle.std.proofs.Common.{◌≡◌, true, false, Some, None, Err, rules, sym, refl, ap, ◌∙◌}
+use Rattle.std.proofs.Common.{◌≡◌, true, false, Some, None, Err, rules, refl}
 use Rattle.terms.specs.declared.Refusal.TheVariants.{NoSuchLabel}
 use Rattle.terms.specs.Sentences.{well_formed}
 use Rattle.books.specs.Held.{contents}

@@ -1,10 +1,10 @@
-use Rattle.std.proofs.Common.{◌≡◌, ℕ, ◌+◌, length, Ok, Err, sym, refl, ap, ◌∙◌, subst, arith, rules}
-use Rattle.std.proofs.lemmas.List.{length_push, nil_from_length}
+use Rattle.std.proofs.Common.{◌≡◌, ℕ, length, Ok, Err, sym, ap, ◌∙◌, subst, arith, rules}
+use Rattle.std.proofs.lemmas.List.{nil_from_length}
 use Rattle.std.proofs.lemmas.Bool.{eqb-true, eqb-false}
 use Rattle.books.specs.Held.{contents}
 use Rattle.texts.specs.Texts.{BadLine}
 use Rattle.texts.specs.Parts.{NextSentence, BadSentence}
-use Rattle.texts.proofs.Steps.{so_far_more, so_far_bad, so_far_read}
+use Rattle.texts.proofs.Steps.{so_far_more, so_far_bad, so_far_read, one_more}
 use Rattle.texts.proofs.read.load.Goals as goal
 
 pub returns-in_err-rest-2-clause-loads : goal.returns-in_err-rest-2-clause-loads
@@ -30,7 +30,7 @@ loop-rest-preserved g c =
     let k = g.L.Label.kind in let l = c.loop-rest in let old = contents l.book in let new = contents c.read_sentence.new.book in
     let answer : c.read_sentence.result ≡ Ok c.in_ok-rest-2.rest = search rules in
     let read : NextSentence k old l.rest.now c.in_ok-rest-2.rest.now new = rw answer at c.read_sentence.ensures.reads in
-    let long : length new.sentences ≡ length old.sentences + 1 = ap (λ b. length b.sentences) read.entered.book ∙ length_push old.sentences read.entered.sentence in (
+    let long = one_more k l.rest.now c.in_ok-rest-2.rest.now old new read in (
       so_far_more k (contents c.read_sizes.new.book).cells c.args.text.now l.rest.now old l.invariant.0 c.in_ok-rest-2.rest.now new read,
       c.read_sentence.ensures.same_cells ∙ l.invariant.1,
       omega (arith, long, l.invariant.2),

@@ -5,7 +5,6 @@ use Rattle.std.proofs.lemmas.Bool.Decides.{Decides-eqb}
 use Rattle.terms.specs.declared.Refusal.{Refusal}
 use Rattle.terms.specs.declared.Refusal.TheVariants.{MalformedLine}
 use Rattle.books.specs.Held.{contents}
-use Rattle.texts.specs.declared.Misread.{Misread}
 use Rattle.texts.specs.Lines.{sizes_header, sentences_header}
 use Rattle.texts.specs.Texts.{no_sizes_header, no_sizes}
 use Rattle.texts.proofs.Openings.{outside, columns}
@@ -28,13 +27,15 @@ returns-in_err-sizes-clause-reads g c =
 
 pub returns-in_err-map_err-clause-reads : goal.returns-in_err-map_err-clause-reads
 returns-in_err-map_err-clause-reads g c =
+    let e = c.in_err-map_err.field-0.0.refusal in
     let some : c.strip_prefix.result ≡ Some c.in_ok-text.text = search rules in
     let sizes : c.sizes_line.result ≡ Some (c.in_ok-sizes.sizes, c.in_ok-sizes.text) = search rules in
-    let refused : (e : Refusal) × (c.size.result ≡ Err e) × (c.from_residual-in_err-map_err.result ≡ Err (record { refusal = e; line = 2 })) = search rules in
+    let answer : c.size.result ≡ Err e = search rules in
+    let refused : c.from_residual-in_err-map_err.result ≡ Err (record { refusal = e; line = 2 }) = search rules in
     let header = strip_prefix_is Decides-eqb c.args.text.now sizes_header c.strip_prefix.result c.strip_prefix.ensures.cases in
-    rw refused.2
+    rw refused
     (outside g.L.Label.kind (contents c.args.book.now) (contents c.size.new.self) c.args.text.now c.in_ok-text.text.now c.in_ok-sizes.text.now c.in_ok-sizes.sizes
-    (rw some at header) (rw sizes at c.sizes_line.ensures) refused.0 (rw refused.1 at c.size.ensures.sized))
+    (rw some at header) (rw sizes at c.sizes_line.ensures) e (rw answer at c.size.ensures.sized))
 
 pub returns-clause-reads : goal.returns-clause-reads
 returns-clause-reads g c =

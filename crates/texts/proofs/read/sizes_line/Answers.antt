@@ -4,24 +4,18 @@ use Rattle.texts.proofs.read.sizes_line.Goals as goal
 
 pub returns-in_err-concepts : goal.returns-in_err-concepts
 returns-in_err-concepts c =
-    rw c.from_residual.ensures
-    (no_sizes_line c.args.text.now
-    (no_first c.args.text.now 65535 65535 (65535 ∷ []) c.in_err-concepts.ensures))
+    rw c.from_residual.ensures (no_sizes_line c.args.text.now (no_first c.in_err-concepts.ensures))
 
 pub returns-in_err-roles : goal.returns-in_err-roles
 returns-in_err-roles c =
     rw c.from_residual-in_err-roles.ensures
-    (no_sizes_line c.args.text.now
-    (no_later c.args.text.now c.in_ok-concepts.text.now c.in_ok-concepts.concepts 65535 65535 (65535 ∷ []) (omega arith) c.in_ok-concepts.ensures
-    (no_first c.in_ok-concepts.text.now 65535 65535 [] c.in_err-roles.ensures)))
+    (no_sizes_line c.args.text.now (no_later (omega arith) c.in_ok-concepts.ensures (no_first c.in_err-roles.ensures)))
 
 pub returns-in_err-individuals : goal.returns-in_err-individuals
 returns-in_err-individuals c =
     rw c.from_residual-in_err-individuals.ensures
     (no_sizes_line c.args.text.now
-    (no_later c.args.text.now c.in_ok-concepts.text.now c.in_ok-concepts.concepts 65535 65535 (65535 ∷ []) (omega arith) c.in_ok-concepts.ensures
-    (no_later c.in_ok-concepts.text.now c.in_ok-roles.text.now c.in_ok-roles.roles 65535 65535 [] (omega arith) c.in_ok-roles.ensures
-    (no_last c.in_ok-roles.text.now 65535 c.in_err-individuals.ensures))))
+    (no_later (omega arith) c.in_ok-concepts.ensures (no_later (omega arith) c.in_ok-roles.ensures (no_last c.in_err-individuals.ensures))))
 
 pub returns : goal.returns
 returns c = (
