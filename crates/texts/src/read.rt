@@ -105,14 +105,7 @@ fn enter<L: Label>(book: &mut Book<'_, L>, sentence: Sentence<u64>) -> Result<()
         return Err(Refusal::MalformedSentence);
     }
     let label = L::from_number(sentence.label).ok_or(Refusal::NoSuchLabel)?;
-    book.enter(Sentence {
-        form: sentence.form,
-        first: sentence.first,
-        second: sentence.second,
-        role: sentence.role,
-        third: sentence.third,
-        label,
-    })
+    book.enter(sentence.with_label(label))
 }
 
 // Reads the line of a sentence and enters the sentence. The text after the line is left.

@@ -27,5 +27,5 @@ returns g c =
       enters =
           entered_labelled g.L.Label.kind (contents c.args.book.now) (contents c.enter.new.self) c.args.sentence c.in_ok-label.label
           (rw some at c.from_number.ensures)
-          formed c.enter.result c.enter.ensures.entered;
+          formed c.enter.result (rw c.with_label.ensures at c.enter.ensures.entered);
     }
