@@ -9,7 +9,7 @@ use Rattle.lines.specs.Texts.{SetOff}
 use Rattle.lines.specs.Numbers.{Reads, Digit, OnlyDigits, PastDigits, DigitsEnd}
 use Rattle.lines.proofs.Digits.{own}
 
-pub heads : (x y : ℕ) (xs ys : List ℕ) → ◌≡◌ {A = List ℕ} (x ∷ xs) (y ∷ ys) → (x ≡ y) × (xs ≡ ys)
+heads : (x y : ℕ) (xs ys : List ℕ) → ◌≡◌ {A = List ℕ} (x ∷ xs) (y ∷ ys) → (x ≡ y) × (xs ≡ ys)
 heads x y xs ys h = (cc, cc)
 
 -- where digits stand in two fronts and begin neither rest, the fronts and the rests are one
@@ -40,12 +40,12 @@ same_number n m xs ys l k u v = same_start n m xs ys l k (past_space xs u) (past
 
 -- a text is cut where its digits end
 module _ (text : List ℕ) (end : ℕ) (cut : DigitsEnd text end) where
-  pub front_digits : OnlyDigits (take end text)
+  front_digits : OnlyDigits (take end text)
   front_digits k l =
       let h : k < end = omega (arith, length-take-le end text cut.within) in
       subst Digit (sym (get_or-take end text k 0 h)) (cut.before k h)
 
-  pub back_past : PastDigits (drop end text)
+  back_past : PastDigits (drop end text)
   back_past = ⊎_elim
       (λ (l : end < length text). subst PastDigits (sym (drop_more text end 0 l)) (cut.past l))
       (λ (l : length text ≤ end). subst PastDigits (sym (drop_all end text l)) tt)

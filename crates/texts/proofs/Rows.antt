@@ -19,7 +19,7 @@ abbrev pub values_onto : ℕ → List ℕ → List ℕ → List ℕ
 values_onto n [] tail = decimal n ++ (10 ∷ tail)
 values_onto n (m ∷ ms) tail = decimal n ++ (32 ∷ values_onto m ms tail)
 
-pub onto : (n : ℕ) (ms tail : List ℕ) → values n ms ++ tail ≡ values_onto n ms tail
+onto : (n : ℕ) (ms tail : List ℕ) → values n ms ++ tail ≡ values_onto n ms tail
 onto n [] tail = append_assoc (decimal n) (10 ∷ []) tail
 onto n (m ∷ ms) tail = append_assoc (decimal n) (32 ∷ values m ms) tail ∙ ap (λ z. decimal n ++ (32 ∷ z)) (onto m ms tail)
 

@@ -87,10 +87,6 @@ module _ {L : Type 0} (k : Kind L) where
     so_far_bad e some (unfit s more d fits opened u) =
         unfit_next s d (record { rest = more; good = good_next s more opened; fits = fits }) u
 
-    -- as many cells as the book has
-    pub so_far_own : SoFar k old.cells text rest old
-    so_far_own = subst (λ n. SoFar k n text rest old) (sym w.over) w
-
     -- a book that holds the lines so far, where nothing is left
     pub so_far_read : (start : Contents L) → start.cells ≡ cells → rest ≡ [] → ReadBook k start.cells text start old
     so_far_read start e none = record {

@@ -4,11 +4,6 @@ use Rattle.std.proofs.lemmas.Bool.Decides.{Decides-eqb}
 use Rattle.lines.proofs.Numbers.{same_start}
 use Rattle.texts.proofs.read.field.Goals as goal
 
-pub returns-in_err-value : goal.returns-in_err-value
-returns-in_err-value c =
-    rw c.from_residual.ensures
-    (λ n more small e. c.in_err-value.ensures n (c.args.end ∷ more) small (λ d. omega (arith, c.requires, d.0)) e)
-
 pub returns-in_err-rest : goal.returns-in_err-rest
 returns-in_err-rest c =
     let rest = c.in_ok-value.rest.now in let end = c.args.end in let q = c.in_ok-value.ensures in
