@@ -1,7 +1,9 @@
 -- A text cut where a byte first stands, and its lines. Assumes nothing.
-use Rattle.std.proofs.Common.{◌≡◌, ℕ, ◌+◌, ◌<◌, ◌≤◌, eqb, List, [], ◌∷◌, ◌++◌, length, take, drop, sym, refl, ap, ◌∙◌, subst, inl, inr, ⊎_elim, arith}
+use Rattle.std.proofs.Common.{◌≡◌, ℕ, ◌<◌, ◌≤◌, eqb, List, [], ◌∷◌, ◌++◌, length, take, drop, Some, None, Option, MatchOption, sym, refl, ap, ◌∙◌, subst, inl, inr, ⊎_elim, arith}
+use Rattle.std.specs.Borrow.{Bor}
+use Rattle.std.specs.Option.{unwrap_or}
 use Rattle.std.proofs.ByRecursion.{All-from_get_or}
-use Rattle.std.proofs.lemmas.List.{append-nil, drop_all, drop-drop, drop_more, get_or-take, length-take-le, take-append-drop}
+use Rattle.std.proofs.lemmas.List.{append-nil, drop_all, drop_more, get_or-take, length-take-le, take-append-drop}
 use Rattle.std.proofs.lemmas.Bool.{cases_lt, cond-true, cond-false, eq-eqb, ne_eqb}
 use Rattle.lines.specs.Texts.{FirstAt, Without, SetOff, first_line, after_line, LineAndRest}
 
@@ -35,11 +37,20 @@ module _ (text : List ℕ) (end : ℕ) (first : FirstAt 10 text end) where
   pub line_cut : take end text ≡ first_line text
   line_cut = sym (first_line_is (take end text) (drop end text) (front 10 text end first) (back 10 text end first)) ∙ ap first_line (take-append-drop end text)
 
-  pub rest_cut : drop (end + 1) text ≡ after_line text
-  rest_cut = sym (drop-drop 1 end text) ∙ sym (after_line_is (take end text) (drop end text) (front 10 text end first) (back 10 text end first)) ∙ ap after_line (take-append-drop end text)
+  pub rest_cut : drop 1 (drop end text) ≡ after_line text
+  rest_cut = sym (after_line_is (take end text) (drop end text) (front 10 text end first) (back 10 text end first)) ∙ ap after_line (take-append-drop end text)
 
-  pub whole_cut : LineAndRest text (take end text) (after_line text)
-  whole_cut =
-      let w = line_and_rest (take end text) (drop end text) (front 10 text end first) (back 10 text end first) in
-      subst (λ t. LineAndRest t (take end text) (after_line text)) (take-append-drop end text)
-      (subst (λ r. LineAndRest (take end text ++ drop end text) (take end text) r) (drop-drop 1 end text ∙ rest_cut) w)
+  pub whole_cut : LineAndRest text (take end text) (drop 1 (drop end text))
+  whole_cut = subst (λ t. LineAndRest t (take end text) (drop 1 (drop end text))) (take-append-drop end text)
+      (line_and_rest (take end text) (drop end text) (front 10 text end first) (back 10 text end first))
+
+-- a rest is without its line feed
+no_feed : (rest : List ℕ) → SetOff 10 rest → ((more : List ℕ) → rest ≡ 10 ∷ more → ⊥) → rest ≡ drop 1 rest
+no_feed [] u none = refl
+no_feed (b ∷ rest) u none = absurd (none rest (ap (λ z. z ∷ rest) u))
+
+pub past_feed :
+    (rest : Bor (List ℕ)) (r : Option (Bor (List ℕ))) → SetOff 10 rest.now
+    → MatchOption r ((more : List ℕ) → rest.now ≡ 10 ∷ more → ⊥) (λ x. rest.now ≡ 10 ∷ x.now) → (unwrap_or r rest).now ≡ drop 1 rest.now
+past_feed rest (Some x) u h = sym (ap (λ z. drop 1 z) h)
+past_feed rest None u h = no_feed rest.now u h

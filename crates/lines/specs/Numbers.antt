@@ -1,5 +1,5 @@
 -- What it is to read a value, and a number, off a text. Assumes nothing.
-use Rattle.std.specs.Prelude.{◌≡◌, ℕ, ◌+◌, ◌-◌, ◌*◌, ◌<◌, ◌≤◌, List, ◌∷◌, ◌++◌, Some, None, decimal, Option, ◌≢◌}
+use Rattle.std.specs.Prelude.{◌≡◌, ℕ, ◌<◌, ◌≤◌, List, [], ◌∷◌, ◌++◌, length, Some, None, decimal, Option, ◌≢◌, slice_index}
 use Rattle.std.specs.Borrow.{Bor}
 use Rattle.std.specs.Int.{IsInRange}
 use Rattle.lines.specs.Texts.{SetOff}
@@ -9,10 +9,29 @@ abbrev pub Reads : {X : Type 0} → (X → Type 0) → (X → List ℕ) → List
 Reads Fits written text (Some x) = Fits x × (text ≡ written x)
 Reads {X} Fits written text None = (x : X) → Fits x → text ≢ written x
 
--- the value with the digit after it, up to the limit; or the byte is no digit, or the value would be above the limit
-abbrev pub Grows : ℕ → ℕ → ℕ → Option ℕ → Type 0
-Grows value digit most (Some v) = IsInRange 48 57 digit × (v ≡ value * 10 + (digit - 48)) × (v ≤ most)
-Grows value digit most None = IsInRange 48 57 digit → most < value * 10 + (digit - 48)
+-- the byte is a digit
+abbrev pub Digit : ℕ → Type 0
+Digit b = IsInRange 48 57 b
+
+-- every byte is a digit
+abbrev pub OnlyDigits : List ℕ → Type 0
+OnlyDigits ds = (k : ℕ) → k < length ds → Digit (slice_index ds k)
+
+-- the text does not begin with a digit
+abbrev pub PastDigits : List ℕ → Type 0
+PastDigits [] = Unit {0}
+PastDigits (b ∷ bs) = Digit b → ⊥
+
+-- where the digits at the start of a text end
+pub record DigitsEnd (text : List ℕ) (end : ℕ) : Type 0 where
+  pub within : end ≤ length text
+  pub before : (k : ℕ) → k < end → Digit (slice_index text k)
+  pub past : end < length text → Digit (slice_index text end) → ⊥
+
+-- the text is a number up to the limit and a rest that does not begin with a digit; or it is no such text
+abbrev pub NumberAt : ℕ → List ℕ → Option (ℕ × Bor (List ℕ)) → Type 0
+NumberAt most text (Some p) = (p.0 ≤ most) × PastDigits p.1.now × (text ≡ decimal p.0 ++ p.1.now)
+NumberAt most text None = (n : ℕ) (rest : List ℕ) → n ≤ most → PastDigits rest → text ≢ decimal n ++ rest
 
 -- the text is a space, a number up to the limit, and a rest that a space sets off; or it is no such text
 abbrev pub ReadsFirst : ℕ → List ℕ → Option (ℕ × Bor (List ℕ)) → Type 0

@@ -1,20 +1,29 @@
 // Lines: a text in bytes, line by line and number by number.
 #![tactic(auto)]
 
-ghost use Rattle.std.specs.Prelude.{◌≡◌, ◌<◌, ◌≤◌, length, decimal, Decides, slice_index};
-ghost use Rattle.lines.specs.Texts.{FirstAt, first_line, after_line, LineAndRest};
-ghost use Rattle.lines.specs.Numbers.{Reads, ReadsFirst, Grows};
+ghost use Rattle.std.specs.Prelude.{◌≡◌, ◌^◌, ◌<◌, length, decimal, Decides, slice_index};
+ghost use Rattle.lines.specs.Texts.{FirstAt, SetOff, first_line, after_line, LineAndRest};
+ghost use Rattle.lines.specs.Numbers.{Reads, OnlyDigits, DigitsEnd, NumberAt, ReadsFirst};
+
+use std::str;
 
 // Where a byte first stands in a text, or the text's end.
 fn find(text: &[u8], sought: u8) -> usize
     ensures { FirstAt sought text.now result }
 {
-    for (at, byte) in text.iter().enumerate() {
-        if *byte == sought {
-            return at;
-        }
-    }
-    text.len()
+    text.iter()
+        .position(|byte| *byte == sought)
+        .unwrap_or(text.len())
+}
+
+// The first line of a text, without its line feed, and the text after it.
+fn split_line(text: &[u8]) -> (&[u8], &[u8])
+    ensures line { result.0.now ≡ first_line text.now }
+    ensures rest { result.1.now ≡ after_line text.now }
+    ensures whole { LineAndRest text.now result.0.now result.1.now }
+{
+    let (line, rest) = text.split_at(find(text, b'\n'));
+    (line, rest.strip_prefix(b"\n").unwrap_or(rest))
 }
 
 // The text after its first line.
@@ -22,12 +31,7 @@ pub fn after_line(text: &[u8]) -> &[u8]
     ensures rest { result.now ≡ after_line text.now }
     ensures shorter { 0 < length text.now → length result.now < length text.now }
 {
-    let end = find(text, b'\n');
-    if end < text.len() {
-        &text[end + 1..]
-    } else {
-        &text[end..]
-    }
+    split_line(text).1
 }
 
 // The first line of a text, without its line feed.
@@ -35,8 +39,7 @@ pub fn first_line(text: &[u8]) -> &[u8]
     ensures line { result.now ≡ first_line text.now }
     ensures whole { LineAndRest text.now result.now (after_line text.now) }
 {
-    let end = find(text, b'\n');
-    &text[0..end]
+    split_line(text).0
 }
 
 // The number after a space at the start of a text, up to a limit, and the rest of the text from the next space on.
@@ -44,23 +47,48 @@ pub fn first_number(text: &[u8], most: u64) -> Option<(u64, &[u8])>
     ensures { ReadsFirst most text.now result }
 {
     let field = text.strip_prefix(b" ")?;
-    let end = find(field, b' ');
-    let value = number(&field[0..end], most)?;
-    Some((value, &field[end..]))
+    let (value, rest) = number_at(field, most)?;
+    if is_set_off(rest, b' ') {
+        Some((value, rest))
+    } else {
+        None
+    }
 }
 
-// The number that decimal digits write, with no sign and no leading zero, if it is not above the limit.
-fn number(digits: &[u8], most: u64) -> Option<u64>
-    ensures { Reads (λ n. n ≤ most) decimal digits.now result }
+// Whether a text is empty or begins with a byte.
+fn is_set_off(text: &[u8], byte: u8) -> bool
+    ensures { Decides result (SetOff byte text.now) }
 {
-    if digits.is_empty() || has_leading_zero(digits) {
+    text.first().is_none_or(|first| *first == byte)
+}
+
+// The number at the start of a text, up to a limit and with no leading zero, and the text after its digits.
+pub fn number_at(text: &[u8], most: u64) -> Option<(u64, &[u8])>
+    ensures { NumberAt most text.now result }
+{
+    let (digits, rest) = text.split_at(digits_end(text));
+    let value = number(digits).filter(|value| *value <= most)?;
+    Some((value, rest))
+}
+
+// Where the digits at the start of a text end.
+fn digits_end(text: &[u8]) -> usize
+    ensures { DigitsEnd text.now result }
+{
+    text.iter()
+        .position(|byte| !byte.is_ascii_digit())
+        .unwrap_or(text.len())
+}
+
+// The number that digits write, if they have no leading zero and it has 64 bits.
+fn number(digits: &[u8]) -> Option<u64>
+    requires { OnlyDigits digits.now }
+    ensures { Reads (λ n. n < 2 ^ 64) decimal digits.now result }
+{
+    if has_leading_zero(digits) {
         return None;
     }
-    let mut value = 0;
-    for digit in digits {
-        value = grown(value, *digit, most)?;
-    }
-    Some(value)
+    str::from_utf8(digits).ok()?.parse().ok()
 }
 
 // Whether digits begin with a zero and go on after it.
@@ -68,15 +96,4 @@ fn has_leading_zero(digits: &[u8]) -> bool
     ensures { Decides result ((slice_index digits.now 0 ≡ 48) × (1 < length digits.now)) }
 {
     digits.len() > 1 && digits[0] == b'0'
-}
-
-// The value with one more digit after it, if that byte is a digit and the value stays within the limit.
-fn grown(value: u64, digit: u8, most: u64) -> Option<u64>
-    ensures { Grows value digit most result }
-{
-    if digit < b'0' || digit > b'9' {
-        return None;
-    }
-    let next = value.checked_mul(10)?.checked_add(u64::from(digit - b'0'))?;
-    if next <= most { Some(next) } else { None }
 }

@@ -8,7 +8,7 @@ use Rattle.terms.specs.declared.Refusal.{Refusal}
 use Rattle.terms.specs.declared.Refusal.TheVariants.{SizesOutsideLimits, MalformedSentence, BookFull}
 use Rattle.terms.specs.Refusals.{After, Accepted}
 use Rattle.terms.specs.Places.{outside_limits}
-use Rattle.terms.specs.Sentences.{well_formed}
+use Rattle.terms.specs.Sentences.{relabelled, well_formed}
 use Rattle.books.specs.Contents.{Contents, unsettled, one_concept, Sized, Entered}
 use Rattle.texts.specs.Parts.{Unfit, full, Enters}
 
@@ -52,14 +52,9 @@ pub sized_blank : {L : Type 0} (old new : Contents L) (r : Result (Unit {0}) Ref
 sized_blank old new (Ok u) h = h
 sized_blank old new (Err e) h = absurd h
 
--- the sentence that has these numbers and this label
-abbrev pub labelled : {L : Type 0} → Sentence ℕ → L → Sentence L
-labelled s l =
-    record { form = s.form; first = s.first; second = s.second; role = s.role; third = s.third; label = l }
-
 module _ {L : Type 0} (k : Kind L) (old new : Contents L) (s : Sentence ℕ) (l : L) (its : k.number l ≡ s.label) (formed : well_formed old.sizes s ≡ true) where
   abbrev left : Contents L
-  left = unsettled old old.sizes (old.sentences ++ (labelled s l ∷ []))
+  left = unsettled old old.sizes (old.sentences ++ (relabelled s l ∷ []))
 
   abbrev Full : Result (Unit {0}) Refusal → Type 0
   Full r = (leb old.cells (length old.sentences) ≡ true) × (r ≡ Err BookFull) × (new ≡ old)
@@ -67,18 +62,18 @@ module _ {L : Type 0} (k : Kind L) (old new : Contents L) (s : Sentence ℕ) (l 
   abbrev Fits : Result (Unit {0}) Refusal → Type 0
   Fits r = (leb old.cells (length old.sentences) ≡ false) × Accepted (λ (u : Unit {0}). new ≡ left) r
 
-  either : (r : Result (Unit {0}) Refusal) → Entered old (labelled s l) r new → Full r ⊎ Fits r
+  either : (r : Result (Unit {0}) Refusal) → Entered old (relabelled s l) r new → Full r ⊎ Fits r
   either r h =
       second_check r (new ≡ old) (Accepted (λ (u : Unit {0}). new ≡ left)) (well_formed old.sizes s)
       (leb old.cells (length old.sentences)) MalformedSentence BookFull formed h
 
   -- entering a sentence whose label was found
-  pub entered_labelled : (r : Result (Unit {0}) Refusal) → Entered old (labelled s l) r new → Enters k old s r new
+  pub entered_labelled : (r : Result (Unit {0}) Refusal) → Entered old (relabelled s l) r new → Enters k old s r new
   entered_labelled (Ok u) h = ⊎_elim
       (λ (p : Full (Ok u)). absurd (not_refused u BookFull p.1))
       (λ (p : Fits (Ok u)). record {
-        sentence = labelled s l;
-        same = λ i. labelled s (its i);
+        sentence = relabelled s l;
+        same = λ i. relabelled s (its i);
         formed = formed;
         room = leb-false old.cells (length old.sentences) p.0;
         book = p.1;

@@ -1,5 +1,5 @@
 -- Lines of values: each is told from what follows it. Assumes nothing.
-use Rattle.std.proofs.Common.{◌≡◌, ℕ, ◌^◌, ◌<◌, ◌≤◌, true, ltb, List, [], ◌∷◌, ◌++◌, length, get_or, decimal, sym, refl, ap, ◌∙◌, arith}
+use Rattle.std.proofs.Common.{◌≡◌, ℕ, ◌^◌, ◌<◌, ◌≤◌, true, ltb, List, [], ◌∷◌, ◌++◌, length, get_or, drop, decimal, sym, refl, ap, ◌∙◌, arith}
 use Rattle.std.specs.List.{AllByRecursion}
 use Rattle.std.proofs.lemmas.List.{append_assoc, length-append}
 use Rattle.std.proofs.lemmas.Bool.{and_from, and_parts, ltb-true, lt-ltb}
@@ -7,14 +7,19 @@ use Rattle.terms.specs.declared.Sizes.{Sizes}
 use Rattle.terms.specs.declared.Sentence.{Sentence}
 use Rattle.texts.specs.Lines.{values, sizes_line, sentence_line, sizes_fit, sentence_fits}
 use Rattle.texts.specs.Texts.{Opens}
-use Rattle.texts.proofs.Figures.{same_field}
+use Rattle.lines.proofs.Numbers.{same_start}
+
+-- a number and what follows it are determined by the byte that ends it
+same_field : (n m e : ℕ) (xs ys : List ℕ) → n < 2 ^ 64 → m < 2 ^ 64 → e < 48 → decimal n ++ (e ∷ xs) ≡ decimal m ++ (e ∷ ys) → (n ≡ m) × (xs ≡ ys)
+same_field n m e xs ys l k below h =
+    let s = same_start n m (e ∷ xs) (e ∷ ys) l k (λ d. omega (arith, d.0)) (λ d. omega (arith, d.0)) h in (s.0, ap (drop 1) s.1)
 
 -- a line of values with what follows it
 abbrev pub values_onto : ℕ → List ℕ → List ℕ → List ℕ
 values_onto n [] tail = decimal n ++ (10 ∷ tail)
 values_onto n (m ∷ ms) tail = decimal n ++ (32 ∷ values_onto m ms tail)
 
-pub onto : (n : ℕ) (ms tail : List ℕ) → values n ms ++ tail ≡ values_onto n ms tail
+onto : (n : ℕ) (ms tail : List ℕ) → values n ms ++ tail ≡ values_onto n ms tail
 onto n [] tail = append_assoc (decimal n) (10 ∷ []) tail
 onto n (m ∷ ms) tail = append_assoc (decimal n) (32 ∷ values m ms) tail ∙ ap (λ z. decimal n ++ (32 ∷ z)) (onto m ms tail)
 
@@ -25,30 +30,44 @@ Under [] (m ∷ ms) = ⊥
 Under (n ∷ ns) [] = ⊥
 Under (n ∷ ns) (m ∷ ms) = (n ≤ m) × Under ns ms
 
--- no line of values with these limits begins the text
-abbrev pub NoValues : List ℕ → ℕ → List ℕ → Type 0
-NoValues text most limits =
-    (n : ℕ) (ns more : List ℕ) → Under (n ∷ ns) (most ∷ limits) → text ≡ values_onto n ns more → ⊥
-
 -- no number up to the limit begins the text with this end
 abbrev pub NoField : List ℕ → ℕ → ℕ → Type 0
 NoField text most end = (n : ℕ) (more : List ℕ) → n ≤ most → text ≡ decimal n ++ (end ∷ more) → ⊥
 
-pub no_last : (text : List ℕ) (most : ℕ) → NoField text most 10 → NoValues text most []
-no_last text most none n [] more u h = none n more u.0 h
-no_last text most none n (k ∷ ns) more u h = u.1
+-- no line of values with these limits begins the text
+abbrev NoneOf : List ℕ → ℕ → List ℕ → Type 0
+NoneOf text most limits = (n : ℕ) (ns more : List ℕ) → Under (n ∷ ns) (most ∷ limits) → text ≡ values_onto n ns more → ⊥
 
-pub no_first : (text : List ℕ) (most m : ℕ) (ms : List ℕ) → NoField text most 32 → NoValues text most (m ∷ ms)
-no_first text most m ms none n [] more u h = u.1
-no_first text most m ms none n (k ∷ ns) more u h = none n (values_onto k ns more) u.0 h
+pub record NoValues (text : List ℕ) (most : ℕ) (limits : List ℕ) : Type 0 where
+  pub none : NoneOf text most limits
 
-pub no_later :
+none_last : (text : List ℕ) (most : ℕ) → NoField text most 10 → NoneOf text most []
+none_last text most none n [] more u h = none n more u.0 h
+none_last text most none n (k ∷ ns) more u h = u.1
+
+none_first : (text : List ℕ) (most m : ℕ) (ms : List ℕ) → NoField text most 32 → NoneOf text most (m ∷ ms)
+none_first text most m ms none n [] more u h = u.1
+none_first text most m ms none n (k ∷ ns) more u h = none n (values_onto k ns more) u.0 h
+
+none_later :
     (text rest : List ℕ) (v most m : ℕ) (ms : List ℕ) → most < 2 ^ 64 → (v ≤ most) × (text ≡ decimal v ++ (32 ∷ rest))
-    → NoValues rest m ms → NoValues text most (m ∷ ms)
-no_later text rest v most m ms l q none n [] more u h = u.1
-no_later text rest v most m ms l q none n (k ∷ ns) more u h =
+    → NoneOf rest m ms → NoneOf text most (m ∷ ms)
+none_later text rest v most m ms l q none n [] more u h = u.1
+none_later text rest v most m ms l q none n (k ∷ ns) more u h =
     none k ns more u.1
     (same_field v n 32 rest (values_onto k ns more) (omega (arith, q.0)) (omega (arith, u.0)) (omega arith) (sym q.1 ∙ h)).1
+
+-- the last number is not there, or the first of several is not, or one after the first
+pub no_last : {text : List ℕ} {most : ℕ} → NoField text most 10 → NoValues text most []
+no_last {text} {most} none = record { none = none_last text most none }
+
+pub no_first : {text : List ℕ} {most m : ℕ} {ms : List ℕ} → NoField text most 32 → NoValues text most (m ∷ ms)
+no_first {text} {most} {m} {ms} none = record { none = none_first text most m ms none }
+
+pub no_later :
+    {text rest : List ℕ} {v most m : ℕ} {ms : List ℕ} → most < 2 ^ 64 → (v ≤ most) × (text ≡ decimal v ++ (32 ∷ rest))
+    → NoValues rest m ms → NoValues text most (m ∷ ms)
+no_later {text} {rest} {v} {most} {m} {ms} l q later = record { none = none_later text rest v most m ms l q later.none }
 
 -- two lines of as many values that begin one text are one line
 same_values :
@@ -122,12 +141,12 @@ sentence_fits_from s a b c d e f =
     (and_from (ltb s.third (2 ^ 16)) _ (lt-ltb s.third (2 ^ 16) (omega arith)) (lt-ltb s.label (2 ^ 64) (omega arith))))))
 
 pub no_sizes_line : (text : List ℕ) → NoValues text 65535 sizes_limits → (z : Sizes) (more : List ℕ) → sizes_fit z ≡ true → Opens text (sizes_line z) more → ⊥
-no_sizes_line text none z more f h =
-    none z.concepts (later_sizes z) more (sizes_under z f) (h ∙ onto z.concepts (later_sizes z) more)
+no_sizes_line text values z more f h =
+    values.none z.concepts (later_sizes z) more (sizes_under z f) (h ∙ onto z.concepts (later_sizes z) more)
 
 pub no_sentence_line : (text : List ℕ) → NoValues text 255 sentence_limits → (s : Sentence ℕ) (more : List ℕ) → sentence_fits s ≡ true → Opens text (sentence_line s) more → ⊥
-no_sentence_line text none s more f h =
-    none s.form (later_names s) more (sentence_under s f) (h ∙ onto s.form (later_names s) more)
+no_sentence_line text values s more f h =
+    values.none s.form (later_names s) more (sentence_under s f) (h ∙ onto s.form (later_names s) more)
 
 pub same_sizes : (y z : Sizes) (t u : List ℕ) → sizes_fit y ≡ true → sizes_fit z ≡ true → sizes_line y ++ t ≡ sizes_line z ++ u → (y ≡ z) × (t ≡ u)
 same_sizes y z t u p q h =

@@ -1,7 +1,7 @@
 -- Reading line by line: the book that holds the lines so far. Assumes nothing.
 use Rattle.std.proofs.Common.{◌≡◌, ℕ, ◌+◌, true, false, List, [], ◌∷◌, ◌++◌, length, sym, refl, ap, ◌∙◌, subst, arith}
 use Rattle.std.specs.List.{flat_map}
-use Rattle.std.proofs.lemmas.List.{append_assoc, append-nil, length-append, flat_map_more}
+use Rattle.std.proofs.lemmas.List.{append_assoc, append-nil, length-append, length_push, flat_map_more}
 use Rattle.std.proofs.lemmas.Bool.{and_from}
 use Rattle.labels.specs.Kind.{Kind}
 use Rattle.terms.specs.declared.Sizes.{Sizes}
@@ -39,6 +39,10 @@ module _ {L : Type 0} (k : Kind L) where
     fresh = refl;
     over = over;
   }
+
+  -- a sentence more is entered
+  pub one_more : (rest more : List ℕ) (old new : Contents L) → NextSentence k old rest more new → length new.sentences ≡ length old.sentences + 1
+  one_more rest more old new n = ap (λ b. length b.sentences) n.entered.book ∙ length_push old.sentences n.entered.sentence
 
   module _ (cells : ℕ) (text rest : List ℕ) (old : Contents L) (w : SoFar k cells text rest old) where
     pub so_far_more : (more : List ℕ) (new : Contents L) → NextSentence k old rest more new → SoFar k cells text more new
@@ -82,10 +86,6 @@ module _ {L : Type 0} (k : Kind L) where
     so_far_bad e some (unlike none) = no_sentence old.sizes old.sentences rest w.good some none
     so_far_bad e some (unfit s more d fits opened u) =
         unfit_next s d (record { rest = more; good = good_next s more opened; fits = fits }) u
-
-    -- as many cells as the book has
-    pub so_far_own : SoFar k old.cells text rest old
-    so_far_own = subst (λ n. SoFar k n text rest old) (sym w.over) w
 
     -- a book that holds the lines so far, where nothing is left
     pub so_far_read : (start : Contents L) → start.cells ≡ cells → rest ≡ [] → ReadBook k start.cells text start old

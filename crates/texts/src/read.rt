@@ -1,8 +1,8 @@
 // Reading a text into a book.
-ghost use Rattle.std.specs.Prelude.{◌≡◌, ◌+◌, ◌-◌, ◌*◌, ◌<◌, ◌≤◌, length, Decides, MatchOption, slice_index};
-ghost use Rattle.std.specs.Int.{IsInRange};
+ghost use Rattle.std.specs.Prelude.{◌≡◌, ◌<◌};
 ghost use Rattle.books.specs.Held.{contents, SameCells};
-ghost use Rattle.texts.specs.Fields.{Runs, Field, Line};
+ghost use Rattle.terms.specs.declared.Refusal.TheVariants.{MalformedLine};
+ghost use Rattle.texts.specs.Fields.{Field, Line};
 ghost use Rattle.texts.specs.Lines.{sizes_line, sizes_fit, sentence_line, sentence_fits};
 ghost use Rattle.texts.specs.Once.{OneBadLine};
 ghost use Rattle.texts.specs.Parts.{ReadsSizes, Enters, ReadsSentence, Loads};
@@ -12,75 +12,39 @@ ghost use Rattle.texts.specs.Texts.{Reads};
 use crate::Misread;
 use books::Book;
 use labels::Label;
+use lines::number_at;
 use terms::{Refusal, Sentence, Sizes};
-
-// Whether a digit stands at a place in a text.
-fn is_digit_at(text: &[u8], at: usize) -> bool
-    ensures { Decides result ((at < length text.now) × IsInRange 48 57 (slice_index text.now at)) }
-{
-    at < text.len() && text[at] >= b'0' && text[at] <= b'9'
-}
-
-// The value with one more digit, unless that is above the limit.
-fn grown(value: u64, digit: u64, most: u64) -> Option<u64>
-    ensures { MatchOption result (most < value * 10 + digit) (λ v. (v ≡ value * 10 + digit) × (v ≤ most)) }
-{
-    if value > most / 10 || digit > most - value * 10 {
-        return None;
-    }
-    Some(value * 10 + digit)
-}
-
-// The digits at the start of a text, as far as they go: their value, up to a limit, and how many they are.
-fn digits(text: &[u8], most: u64) -> Option<(u64, usize)>
-    ensures { Runs most text.now result }
-{
-    let mut value = 0;
-    let mut count = 0;
-    while is_digit_at(text, count) {
-        value = grown(value, (text[count] - b'0') as u64, most)?;
-        count += 1;
-    }
-    Some((value, count))
-}
-
-// Whether the first of so many digits is a zero that others follow.
-fn has_leading_zero(text: &[u8], count: usize) -> bool
-    requires { count ≤ length text.now }
-    ensures { Decides result ((slice_index text.now 0 ≡ 48) × (1 < count)) }
-{
-    count > 1 && text[0] == b'0'
-}
 
 // The number at the start of a text, up to a limit and with no leading zero, and the text after the byte that ends it.
 fn field(text: &[u8], most: u64, end: u8) -> Option<(u64, &[u8])>
     requires { end < 48 }
     ensures { Field most end text.now result }
 {
-    let (value, count) = digits(text, most)?;
-    if count == 0 || count >= text.len() {
-        return None;
-    }
-    if has_leading_zero(text, count) {
-        return None;
-    }
-    if text[count] != end {
-        return None;
-    }
-    Some((value, &text[count + 1..]))
+    let (value, rest) = number_at(text, most)?;
+    let rest = rest.strip_prefix(&[end])?;
+    Some((value, rest))
+}
+
+// The same for a number of 16 bits.
+fn short_field(text: &[u8], end: u8) -> Option<(u16, &[u8])>
+    requires { end < 48 }
+    ensures { Field 65535 end text.now result }
+{
+    let (value, rest) = field(text, u64::from(u16::MAX), end)?;
+    Some((value as u16, rest))
 }
 
 // The sizes whose line begins a text, and the text after that line.
 fn sizes_line(text: &[u8]) -> Option<(Sizes, &[u8])>
     ensures { Line sizes_fit sizes_line text.now result }
 {
-    let (concepts, text) = field(text, 65535, b' ')?;
-    let (roles, text) = field(text, 65535, b' ')?;
-    let (individuals, text) = field(text, 65535, b'\n')?;
+    let (concepts, text) = short_field(text, b' ')?;
+    let (roles, text) = short_field(text, b' ')?;
+    let (individuals, text) = short_field(text, b'\n')?;
     let sizes = Sizes {
-        concepts: concepts as u16,
-        roles: roles as u16,
-        individuals: individuals as u16,
+        concepts,
+        roles,
+        individuals,
     };
     Some((sizes, text))
 }
@@ -90,20 +54,31 @@ fn sentence_line(text: &[u8]) -> Option<(Sentence<u64>, &[u8])>
     ensures { Line sentence_fits sentence_line text.now result }
 {
     let (form, text) = field(text, 255, b' ')?;
-    let (first, text) = field(text, 65535, b' ')?;
-    let (second, text) = field(text, 65535, b' ')?;
-    let (role, text) = field(text, 65535, b' ')?;
-    let (third, text) = field(text, 65535, b' ')?;
+    let (first, text) = short_field(text, b' ')?;
+    let (second, text) = short_field(text, b' ')?;
+    let (role, text) = short_field(text, b' ')?;
+    let (third, text) = short_field(text, b' ')?;
     let (label, text) = field(text, u64::MAX, b'\n')?;
     let sentence = Sentence {
         form: form as u8,
-        first: first as u16,
-        second: second as u16,
-        role: role as u16,
-        third: third as u16,
+        first,
+        second,
+        role,
+        third,
         label,
     };
     Some((sentence, text))
+}
+
+// The refusal of a line that is not what must stand there.
+fn malformed(line: usize) -> Misread
+    ensures refusal { result.refusal ≡ MalformedLine }
+    ensures line { result.line ≡ line }
+{
+    Misread {
+        refusal: Refusal::MalformedLine,
+        line,
+    }
 }
 
 // Reads the first three lines and sizes the book by them. The lines of the sentences are left.
@@ -111,28 +86,14 @@ fn read_sizes<'t, L: Label>(book: &mut Book<'_, L>, text: &'t [u8]) -> Result<&'
     ensures same_cells { SameCells book.old book.new }
     ensures reads { ReadsSizes L.Label.kind (contents book.old) text.now result (contents book.new) }
 {
-    let Some(text) = text.strip_prefix(b"concepts roles units\n") else {
-        return Err(Misread {
-            refusal: Refusal::MalformedLine,
-            line: 1,
-        });
-    };
-    let Some((sizes, text)) = sizes_line(text) else {
-        return Err(Misread {
-            refusal: Refusal::MalformedLine,
-            line: 2,
-        });
-    };
-    if let Err(refusal) = book.size(sizes) {
-        return Err(Misread { refusal, line: 2 });
-    }
-    let Some(text) = text.strip_prefix(b"form first second role third label\n") else {
-        return Err(Misread {
-            refusal: Refusal::MalformedLine,
-            line: 3,
-        });
-    };
-    Ok(text)
+    let text = text
+        .strip_prefix(b"concepts roles units\n")
+        .ok_or(malformed(1))?;
+    let (sizes, text) = sizes_line(text).ok_or(malformed(2))?;
+    book.size(sizes)
+        .map_err(|refusal| Misread { refusal, line: 2 })?;
+    text.strip_prefix(b"form first second role third label\n")
+        .ok_or(malformed(3))
 }
 
 // Enters a sentence whose label is given by its number.
@@ -143,17 +104,8 @@ fn enter<L: Label>(book: &mut Book<'_, L>, sentence: Sentence<u64>) -> Result<()
     if !sentence.is_well_formed(book.sizes()) {
         return Err(Refusal::MalformedSentence);
     }
-    let Some(label) = L::from_number(sentence.label) else {
-        return Err(Refusal::NoSuchLabel);
-    };
-    book.enter(Sentence {
-        form: sentence.form,
-        first: sentence.first,
-        second: sentence.second,
-        role: sentence.role,
-        third: sentence.third,
-        label,
-    })
+    let label = L::from_number(sentence.label).ok_or(Refusal::NoSuchLabel)?;
+    book.enter(sentence.with_label(label))
 }
 
 // Reads the line of a sentence and enters the sentence. The text after the line is left.
@@ -161,13 +113,9 @@ fn read_sentence<'t, L: Label>(book: &mut Book<'_, L>, text: &'t [u8]) -> Result
     ensures same_cells { SameCells book.old book.new }
     ensures reads { ReadsSentence L.Label.kind (contents book.old) text.now result (contents book.new) }
 {
-    let Some((sentence, rest)) = sentence_line(text) else {
-        return Err(Refusal::MalformedLine);
-    };
-    match enter(book, sentence) {
-        Ok(()) => Ok(rest),
-        Err(refusal) => Err(refusal),
-    }
+    let (sentence, rest) = sentence_line(text).ok_or(Refusal::MalformedLine)?;
+    enter(book, sentence)?;
+    Ok(rest)
 }
 
 // Reads a text into the book up to its end or its first bad line.
@@ -175,16 +123,11 @@ fn load<L: Label>(book: &mut Book<'_, L>, text: &[u8]) -> Result<(), Misread>
     ensures same_cells { SameCells book.old book.new }
     ensures loads { Loads L.Label.kind (contents book.old) text.now result (contents book.new) }
 {
-    let mut rest = match read_sizes(book, text) {
-        Ok(rest) => rest,
-        Err(misread) => return Err(misread),
-    };
+    let mut rest = read_sizes(book, text)?;
     let mut line = 4;
+    // By hand: where a line ends is known only when its sentence is read.
     while !rest.is_empty() {
-        rest = match read_sentence(book, rest) {
-            Ok(more) => more,
-            Err(refusal) => return Err(Misread { refusal, line }),
-        };
+        rest = read_sentence(book, rest).map_err(|refusal| Misread { refusal, line })?;
         line += 1;
     }
     Ok(())
@@ -207,15 +150,11 @@ pub fn read_text<L: Label>(book: &mut Book<'_, L>, text: &[u8]) -> Result<(), Mi
 }
 
 // A text has one first bad line at most, with one refusal: both are determined by the text and the number of cells.
-pub fn first_bad_line_is_determined<L: Label>() -> u8
+pub fn first_bad_line_is_determined<L: Label>()
     ensures { OneBadLine L.Label.kind }
-{
-    0
-}
+{}
 
 // Reading what was written gives the same book: its sizes and its sentences, labels by their number.
-pub fn written_text_reads_back<L: Label>() -> u8
+pub fn written_text_reads_back<L: Label>()
     ensures { ReadsBack L.Label.kind }
-{
-    0
-}
+{}

@@ -1,40 +1,24 @@
-use Rattle.std.proofs.Common.{◌≡◌, ◌<◌, ◌≤◌, length, get_or, sym, ⊎_elim, arith}
-use Rattle.std.proofs.lemmas.Bool.{both_ways, cases_lt, eqb-true, eqb-false}
-use Rattle.lines.proofs.Digits.{proper, read_none, read_more, read_all, read_no_more}
+use Rattle.std.proofs.Common.{◌≡◌, ◌<◌, length, get_or, rules}
+use Rattle.std.specs.Str.Parse.{ParsesUnsigned}
+use Rattle.std.proofs.lemmas.Bool.{both_ways}
+use Rattle.lines.proofs.Digits.{padded, digits_text, parse_reads}
 use Rattle.lines.proofs.number.Goals as goal
-use Rattle.lines.proofs.number.Goals.{then-is_empty-via-then-is_empty, then-is_empty-via-else-is_empty+then-has_leading_zero}
 
-pub loop-digit-init : goal.loop-digit-init
-loop-digit-init c = read_none c.args.digits.now c.args.most
+pub returns-then-has_leading_zero : goal.returns-then-has_leading_zero
+returns-then-has_leading_zero c n small e =
+    padded c.args.digits.now n small e (c.has_leading_zero.ensures.0 c.if-has_leading_zero.true)
 
-pub loop-digit-preserved : goal.loop-digit-preserved
-loop-digit-preserved c =
-    let l = c.loop-digit in let step = c.in_ok-value.ensures in
-    read_more c.args.digits.now l.digit-index l.value c.args.most l.invariant c.in_ok-value.value
-    c.loop-digit-test.true step.0 step.1 step.2
-
-pub returns-then-is_empty : goal.returns-then-is_empty
-returns-then-is_empty c n small e =
-    let p = proper c.args.digits.now n (omega arith) e in
-    elim c.then-is_empty.branch [
-      | then-is_empty-via-then-is_empty w ↦ omega (arith, p.some, eqb-true _ _ (sym w.if-is_empty.ensures))
-      | then-is_empty-via-else-is_empty+then-has_leading_zero w ↦
-          let zero = w.has_leading_zero.ensures.0 w.if-has_leading_zero.true in omega (arith, zero.1, p.plain zero.0)
-    ]
-
-pub returns-in_err-value : goal.returns-in_err-value
-returns-in_err-value c =
-    let l = c.loop-digit in
-    rw c.from_residual.ensures
-    (read_no_more c.args.digits.now l.digit-index l.value c.args.most l.invariant
-    c.loop-digit-test.true c.in_err-value.ensures (omega arith))
+pub returns-in_err-ok : goal.returns-in_err-ok
+returns-in_err-ok c =
+    let text = digits_text c.args.digits.now c.requires in
+    let none = c.in_err-ok.ensures.value in
+    search rules
 
 pub returns : goal.returns
 returns c =
-    let ds = c.args.digits.now in let l = c.loop-digit in
-    let some : 0 < length ds = omega (arith, eqb-false _ _ (sym c.if-is_empty.ensures)) in
-    let plain : get_or ds 0 0 ≡ 48 → length ds ≡ 1 = λ z. ⊎_elim
-    (λ (h : 1 < length ds). absurd (both_ways c.has_leading_zero.result c.if-has_leading_zero.false (c.has_leading_zero.ensures.1 (z, h))))
-    (λ (h : length ds ≤ 1). omega arith)
-    (cases_lt 1 (length ds)) in
-    (l.invariant.small, read_all ds l.digit-index l.value c.args.most l.invariant c.loop-digit-test.false (omega arith) (record { some = some; plain = plain }))
+    let digits = c.args.digits.now in let some = c.in_ok-ok.ensures.value in
+    let whole : c.in_ok-ok.field-0.now ≡ digits = search rules in
+    let plain : (get_or digits 0 0 ≡ 48) × (1 < length digits) → ⊥ =
+    λ p. both_ways c.has_leading_zero.result c.if-has_leading_zero.false (c.has_leading_zero.ensures.1 p) in
+    let parsed : ParsesUnsigned 64 10 digits c.parse.result = rw whole at c.parse.ensures.value.0 in
+    rw c.ok-2.ensures.value (parse_reads digits c.requires plain c.parse.result parsed)

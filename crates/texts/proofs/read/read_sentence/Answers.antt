@@ -1,30 +1,17 @@
-use Rattle.std.proofs.Common.{length, refl, ap, arith}
-use Rattle.std.proofs.lemmas.List.{length-append}
-use Rattle.texts.specs.Lines.{sentence_line}
+use Rattle.std.proofs.Common.{◌≡◌, Some, None, Err, refl, rules}
+use Rattle.terms.specs.declared.Refusal.TheVariants.{MalformedLine}
 use Rattle.texts.specs.Parts.{unlike, unfit}
-use Rattle.texts.proofs.Rows.{line_some}
 use Rattle.texts.proofs.read.read_sentence.Goals as goal
 
-pub returns-in_default : goal.returns-in_default
-returns-in_default g c = record { same_cells = refl; reads = (unlike c.in_default.ensures, refl) }
+pub returns-in_err-sentence-clause-reads : goal.returns-in_err-sentence-clause-reads
+returns-in_err-sentence-clause-reads g c =
+    let none : c.sentence_line.result ≡ None = search rules in
+    let refused : c.from_residual.result ≡ Err MalformedLine = search rules in
+    rw refused (unlike (rw none at c.sentence_line.ensures), refl)
 
-pub returns-in-Ok : goal.returns-in-Ok
-returns-in-Ok g c =
-    let s = c.in-Some.sentence in let opened = c.in-Some.ensures.1 in
-    record {
-      same_cells = c.in-Ok.ensures.same_cells;
-      reads = record {
-        line = s;
-        opened = opened;
-        shorter = omega (arith, ap length opened, length-append (sentence_line s) c.in-Some.rest.now, line_some s);
-        entered = c.in-Ok.ensures.enters;
-      };
-    }
-
-pub returns-in-Err : goal.returns-in-Err
-returns-in-Err g c =
-    let line = c.in-Some.ensures in let entered = c.in-Err.ensures.enters in
-    record {
-      same_cells = c.in-Err.ensures.same_cells;
-      reads = (unfit c.in-Some.sentence c.in-Some.rest.now c.in-Err.refusal line.0 line.1 entered.0, entered.1);
-    }
+pub returns-in_err-enter-clause-reads : goal.returns-in_err-enter-clause-reads
+returns-in_err-enter-clause-reads g c =
+    let some : c.sentence_line.result ≡ Some (c.in_ok-sentence.sentence, c.in_ok-sentence.rest) = search rules in
+    let refused : c.from_residual-in_err-enter.result ≡ Err c.in_err-enter.field-0.0 = search rules in
+    let line = rw some at c.sentence_line.ensures in let entered = c.in_err-enter.ensures.enters in
+    rw refused (unfit c.in_ok-sentence.sentence c.in_ok-sentence.rest.now c.in_err-enter.field-0.0 line.0 line.1 entered.0, entered.1)

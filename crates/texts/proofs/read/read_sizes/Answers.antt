@@ -1,74 +1,49 @@
-use Rattle.std.proofs.Common.{[], ◌++◌, length, Some, None, sym, refl, ap, ◌∙◌, subst, arith}
+use Rattle.std.proofs.Common.{◌≡◌, Some, None, Ok, Err, refl, rules}
+use Rattle.std.specs.Option.{ok_or}
 use Rattle.std.proofs.lemmas.Slice.Eq.{strip_prefix_is}
-use Rattle.std.proofs.lemmas.List.{length-append, append_assoc}
-use Rattle.terms.specs.declared.Refusal.{Refusal}
-use Rattle.books.specs.Held.{contents}
-use Rattle.texts.specs.Lines.{sizes_header, sizes_line, sentences_header}
-use Rattle.texts.specs.Texts.{BadLine, no_sizes_header, no_sizes, sizes_outside, no_sentences_header}
-use Rattle.texts.specs.Parts.{SizesRead}
-use Rattle.texts.proofs.Calls.{size_refused, size_accepted}
-use Rattle.texts.proofs.Steps.{so_far_sized, regroup}
-use Rattle.texts.proofs.read.read_sizes.Goals as goal
 use Rattle.std.proofs.lemmas.Bool.Decides.{Decides-eqb}
+use Rattle.terms.specs.declared.Refusal.TheVariants.{MalformedLine}
+use Rattle.books.specs.Held.{contents}
+use Rattle.texts.specs.Lines.{sizes_header, sentences_header}
+use Rattle.texts.specs.Texts.{no_sizes_header, no_sizes}
+use Rattle.texts.proofs.Openings.{outside, columns}
+use Rattle.texts.proofs.read.read_sizes.Goals as goal
 
-pub returns-in_default : goal.returns-in_default
-returns-in_default g c = record {
-  same_cells = refl;
-  reads = record { first_bad = no_sizes_header (strip_prefix_is Decides-eqb c.args.text.now sizes_header None c.in_default.ensures.cases); over = refl };
-}
+pub returns-in_err-text-clause-reads : goal.returns-in_err-text-clause-reads
+returns-in_err-text-clause-reads g c =
+    let none : c.strip_prefix.result ≡ None = search rules in
+    let refused : c.from_residual.result ≡ Err (record { refusal = MalformedLine; line = 1 }) = search rules in
+    let header = strip_prefix_is Decides-eqb c.args.text.now sizes_header c.strip_prefix.result c.strip_prefix.ensures.cases in
+    rw refused (record { first_bad = no_sizes_header (rw none at header); over = refl })
 
-pub returns-in_default-sizes_line : goal.returns-in_default-sizes_line
-returns-in_default-sizes_line g c =
-    let whole = strip_prefix_is Decides-eqb c.args.text.now sizes_header (Some c.in-Some.text) c.in-Some.ensures.cases in
-    record { same_cells = refl; reads = record { first_bad = no_sizes c.in-Some.text.now whole c.in_default-sizes_line.ensures; over = refl } }
+pub returns-in_err-sizes-clause-reads : goal.returns-in_err-sizes-clause-reads
+returns-in_err-sizes-clause-reads g c =
+    let some : c.strip_prefix.result ≡ Some c.in_ok-text.text = search rules in
+    let none : c.sizes_line.result ≡ None = search rules in
+    let refused : c.from_residual-in_err-sizes.result ≡ Err (record { refusal = MalformedLine; line = 2 }) = search rules in
+    let header = strip_prefix_is Decides-eqb c.args.text.now sizes_header c.strip_prefix.result c.strip_prefix.ensures.cases in
+    rw refused (record { first_bad = no_sizes c.in_ok-text.text.now (rw some at header) (rw none at c.sizes_line.ensures); over = refl })
 
-pub returns-in-Err : goal.returns-in-Err
-returns-in-Err g c =
-    let whole = strip_prefix_is Decides-eqb c.args.text.now sizes_header (Some c.in-Some.text) c.in-Some.ensures.cases in
-    let z = c.in-Some-sizes_line.sizes in let more = c.in-Some-sizes_line.text.now in
-    let line = c.in-Some-sizes_line.ensures in
-    let refused = size_refused (contents c.args.book.now) (contents c.size.new.self) z c.in-Err.refusal c.in-Err.ensures.sized in
-    record {
-      same_cells = c.in-Err.ensures.same_cells;
-      reads = record {
-        first_bad =
-            subst (λ (e : Refusal). BadLine g.L.Label.kind (contents c.args.book.now).cells c.args.text.now e 2) (sym refused.1)
-            (sizes_outside z more (whole ∙ ap (λ w. sizes_header ++ w) line.1 ∙ sym (append_assoc sizes_header (sizes_line z) more)) line.0 refused.0);
-        over = ap (λ b. b.cells) refused.2;
-      };
-    }
+pub returns-in_err-map_err-clause-reads : goal.returns-in_err-map_err-clause-reads
+returns-in_err-map_err-clause-reads g c =
+    let e = c.in_err-map_err.field-0.0.refusal in
+    let some : c.strip_prefix.result ≡ Some c.in_ok-text.text = search rules in
+    let sizes : c.sizes_line.result ≡ Some (c.in_ok-sizes.sizes, c.in_ok-sizes.text) = search rules in
+    let answer : c.size.result ≡ Err e = search rules in
+    let refused : c.from_residual-in_err-map_err.result ≡ Err (record { refusal = e; line = 2 }) = search rules in
+    let header = strip_prefix_is Decides-eqb c.args.text.now sizes_header c.strip_prefix.result c.strip_prefix.ensures.cases in
+    rw refused
+    (outside g.L.Label.kind (contents c.args.book.now) (contents c.size.new.self) c.args.text.now c.in_ok-text.text.now c.in_ok-sizes.text.now c.in_ok-sizes.sizes
+    (rw some at header) (rw sizes at c.sizes_line.ensures) e (rw answer at c.size.ensures.sized))
 
-pub returns-in_default-strip_prefix : goal.returns-in_default-strip_prefix
-returns-in_default-strip_prefix g c =
-    let whole = strip_prefix_is Decides-eqb c.args.text.now sizes_header (Some c.in-Some.text) c.in-Some.ensures.cases in
-    let z = c.in-Some-sizes_line.sizes in let more = c.in-Some-sizes_line.text.now in
-    let line = c.in-Some-sizes_line.ensures in
-    let sized = size_accepted (contents c.args.book.now) (contents c.size.new.self) z c.in_default-size.field-0 c.in_default-size.ensures.sized in
-    record {
-      same_cells = c.in_default-size.ensures.same_cells;
-      reads = record {
-        first_bad =
-            no_sentences_header z more (whole ∙ ap (λ w. sizes_header ++ w) line.1 ∙ sym (append_assoc sizes_header (sizes_line z) more)) sized.0
-            (strip_prefix_is Decides-eqb more sentences_header None c.in_default-strip_prefix.ensures.cases);
-        over = ap (λ b. b.cells) sized.1;
-      };
-    }
-
-pub returns : goal.returns
-returns g c =
-    let whole = strip_prefix_is Decides-eqb c.args.text.now sizes_header (Some c.in-Some.text) c.in-Some.ensures.cases in
-    let z = c.in-Some-sizes_line.sizes in let more = c.in-Some-sizes_line.text.now in
-    let line = c.in-Some-sizes_line.ensures in
-    let sized = size_accepted (contents c.args.book.now) (contents c.size.new.self) z c.in_default-size.field-0 c.in_default-size.ensures.sized in
-    let rest = c.in-Some-strip_prefix.text.now in
-    let third = strip_prefix_is Decides-eqb more sentences_header (Some c.in-Some-strip_prefix.text) c.in-Some-strip_prefix.ensures.cases in
-    record {
-      same_cells = c.in_default-size.ensures.same_cells;
-      reads =
-          subst (λ b. SizesRead g.L.Label.kind (contents c.args.book.now).cells c.args.text.now rest b) (sym sized.1) (record {
-            so_far = so_far_sized g.L.Label.kind (contents c.args.book.now).cells c.args.text.now rest (contents c.args.book.now) z refl sized.0
-                (whole ∙ ap (λ w. sizes_header ++ w) (line.1 ∙ ap (λ w. sizes_line z ++ w) third) ∙ regroup sizes_header (sizes_line z) sentences_header [] rest);
-            none_yet = refl;
-            shorter = omega (arith, ap length whole, ap length line.1, ap length third, length-append sizes_header c.in-Some.text.now, length-append (sizes_line z) more, length-append sentences_header rest);
-          });
-    }
+pub returns-clause-reads : goal.returns-clause-reads
+returns-clause-reads g c =
+    let some : c.strip_prefix.result ≡ Some c.in_ok-text.text = search rules in
+    let sizes : c.sizes_line.result ≡ Some (c.in_ok-sizes.sizes, c.in_ok-sizes.text) = search rules in
+    let sized : c.size.result ≡ Ok tt = search rules in
+    let answer : c.ok_or-3.result ≡ ok_or c.strip_prefix-2.result (record { refusal = MalformedLine; line = 3 }) = search rules in
+    let header = strip_prefix_is Decides-eqb c.args.text.now sizes_header c.strip_prefix.result c.strip_prefix.ensures.cases in
+    rw answer
+    (columns g.L.Label.kind (contents c.args.book.now) (contents c.size.new.self) c.args.text.now c.in_ok-text.text.now c.in_ok-sizes.text.now c.in_ok-sizes.sizes
+    (rw some at header) (rw sizes at c.sizes_line.ensures) (rw sized at c.size.ensures.sized) c.strip_prefix-2.result
+    (strip_prefix_is Decides-eqb c.in_ok-sizes.text.now sentences_header c.strip_prefix-2.result c.strip_prefix-2.ensures.cases))
