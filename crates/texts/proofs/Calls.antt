@@ -9,7 +9,7 @@ use Rattle.terms.specs.declared.Refusal.TheVariants.{SizesOutsideLimits, Malform
 use Rattle.terms.specs.Refusals.{After, Accepted}
 use Rattle.terms.specs.Places.{outside_limits}
 use Rattle.terms.specs.Sentences.{relabelled, well_formed}
-use Rattle.books.specs.Contents.{Contents, unsettled, one_concept, Sized, Entered}
+use Rattle.books.specs.Contents.{Contents, unsettled, Sized, Entered}
 use Rattle.texts.specs.Parts.{Unfit, full, Enters}
 
 module _ {X : Type 0} (r : Result X Refusal) (unchanged : Type 0) (passed : Result X Refusal → Type 0) where
@@ -46,11 +46,6 @@ module _ {L : Type 0} (old new : Contents L) (z : Sizes) where
       absurd (not_refused u SizesOutsideLimits p.1))
       (λ (p : (outside_limits z ≡ false) × (new ≡ unsettled old z [])). p)
       (one_check (Ok u) (new ≡ old) (Accepted (λ (u : Unit {0}). new ≡ unsettled old z [])) (outside_limits z) SizesOutsideLimits h)
-
--- sizes 1, 0, 0 are never refused
-pub sized_blank : {L : Type 0} (old new : Contents L) (r : Result (Unit {0}) Refusal) → Sized old one_concept r new → new ≡ unsettled old one_concept []
-sized_blank old new (Ok u) h = h
-sized_blank old new (Err e) h = absurd h
 
 module _ {L : Type 0} (k : Kind L) (old new : Contents L) (s : Sentence ℕ) (l : L) (its : k.number l ≡ s.label) (formed : well_formed old.sizes s ≡ true) where
   abbrev left : Contents L

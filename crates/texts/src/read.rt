@@ -140,11 +140,7 @@ pub fn read_text<L: Label>(book: &mut Book<'_, L>, text: &[u8]) -> Result<(), Mi
 {
     let answer = load(book, text);
     if answer.is_err() {
-        let _ = book.size(Sizes {
-            concepts: 1,
-            roles: 0,
-            individuals: 0,
-        });
+        book.clear();
     }
     answer
 }
