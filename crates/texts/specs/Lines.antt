@@ -6,6 +6,7 @@ use Rattle.terms.specs.declared.Sizes.{Sizes}
 use Rattle.terms.specs.declared.Sentence.{Sentence}
 use Rattle.terms.specs.declared.Refusal.{Refusal}
 use Rattle.terms.specs.Refusals.{refused_line}
+use Rattle.terms.specs.Sentences.{relabelled}
 use Rattle.texts.specs.declared.Misread.{Misread}
 
 -- a line of values: decimal numbers parted by single spaces, then LF
@@ -31,8 +32,7 @@ sentence_line s = values s.form (s.first ∷ (s.second ∷ (s.role ∷ (s.third 
 
 -- a sentence with its label's number in the label's place
 abbrev pub numbered : {L : Type 0} → Kind L → Sentence L → Sentence ℕ
-numbered k s =
-    record { form = s.form; first = s.first; second = s.second; role = s.role; third = s.third; label = k.number s.label }
+numbered k s = relabelled s (k.number s.label)
 
 -- the text of a book: the sizes, then one line for each sentence
 abbrev pub text_of : {L : Type 0} → Kind L → Sizes → List (Sentence L) → List ℕ
