@@ -5,6 +5,7 @@ use Rattle.labels.specs.Kind.{Kind}
 use Rattle.terms.specs.declared.Refusal.{Refusal}
 use Rattle.terms.specs.Refusals.{number_of, refused_line}
 use Rattle.terms.specs.Sentences.{relabelled}
+use Rattle.texts.specs.Lines.{misread_line}
 use Rattle.runs.specs.declared.Request.{Request}
 use Rattle.runs.specs.declared.Request.TheVariants as request
 use Rattle.runs.specs.Account.{Answer, done, read, labelled, bytes}
@@ -88,7 +89,7 @@ module _ {L : Type 0} (k : Kind L) where
   answer_line (done (Ok u)) = codes "ok"
   answer_line (done (Err e)) = refused_line e
   answer_line (read (Ok u)) = codes "ok"
-  answer_line (read (Err bad)) = refused_line bad.refusal ++ (codes " line " ++ decimal bad.line)
+  answer_line (read (Err bad)) = misread_line bad
   answer_line (labelled (Ok l)) = codes "ok " ++ decimal (k.number l)
   answer_line (labelled (Err e)) = refused_line e
   answer_line (bytes r memory) = written_answer r memory

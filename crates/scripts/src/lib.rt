@@ -259,9 +259,7 @@ pub fn answer<L: Label>(heap: Global, outcome: &Outcome<L>) -> Result<String, Al
     match outcome {
         Outcome::Done(Ok(())) | Outcome::Read(Ok(())) => String::from_str(heap, "ok"),
         Outcome::Done(Err(refusal)) | Outcome::Label(Err(refusal)) => refusal.to_string(heap),
-        Outcome::Read(Err(misread)) => {
-            format!(in heap; "{} line {}", misread.refusal, misread.line)
-        }
+        Outcome::Read(Err(misread)) => misread.to_string(heap),
         Outcome::Label(Ok(label)) => format!(in heap; "ok {}", label.number()),
         Outcome::Bytes(Ok(count), memory) => written(heap, *count, memory),
         Outcome::Bytes(Err(refusal), memory) => short(heap, *refusal, memory),
