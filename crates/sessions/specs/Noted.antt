@@ -1,5 +1,6 @@
 -- How the lines of a script are noted before its calls are made, and what is told of them after. Assumes nothing.
-use Rattle.std.specs.Prelude.{◌≡◌, ℕ, suc, ◌<◌, List, [], ◌∷◌, ◌++◌, length, Some, None, Ok, Err, Result}
+use Rattle.std.specs.Prelude.{◌≡◌, ℕ, suc, ◌<◌, List, [], ◌∷◌, ◌++◌, length, Some, None, Ok, Err, Option, Result}
+use Rattle.std.specs.Borrow.{Bor}
 use Rattle.labels.specs.Kind.{Kind}
 use Rattle.terms.specs.declared.Refusal.TheVariants as refusal
 use Rattle.terms.specs.Refusals.{refused_line}
@@ -11,6 +12,11 @@ use Rattle.lines.specs.Texts.{LineAndRest}
 use Rattle.sessions.specs.declared.Unmade.{Unmade}
 use Rattle.sessions.specs.declared.Unmade.TheVariants.{NoSuchLabel, BadLine}
 use Rattle.sessions.specs.Answered.{Told}
+
+-- the next line of a text and what is left, or that none is left
+abbrev pub NextLine : (text : List ℕ) → Option (Bor (List ℕ)) → (rest : List ℕ) → Type 0
+NextLine text None rest = text ≡ []
+NextLine text (Some line) rest = (0 < length text) × LineAndRest text line.now rest
 
 -- how a line is answered: by the outcome of the next call, or by why it makes none
 abbrev pub Reply : Type 0

@@ -46,6 +46,33 @@ struct Notebook<'a, L> {
     replies: Vec<Result<(), Unmade>>,
 }
 
+// The lines of a text, each without its line feed.
+#[derive(Drop)]
+struct Lines<'a> {
+    rest: &'a [u8],
+}
+
+impl<'a> Iterator for Lines<'a> {
+    ghost use Rattle.std.specs.Prelude.{length};
+    ghost use Rattle.std.specs.Iterator.{at_most};
+    ghost use Rattle.sessions.specs.Noted.{NextLine};
+
+    type Item = &'a [u8];
+
+    ghost next_gives = { λ before line after. NextLine before.rest.now line after.rest.now };
+
+    ghost remaining = { λ lines. at_most (length lines.rest.now) };
+
+    fn next(&mut self) -> Option<&'a [u8]> {
+        if self.rest.is_empty() {
+            return None;
+        }
+        let line = first_line(self.rest);
+        self.rest = after_line(self.rest);
+        Some(line)
+    }
+}
+
 // The answers to a script, a line each.
 pub fn answers(heap: Global, script: &[u8]) -> Result<String, AllocError>
     ensures { IfOk result (λ s. Answered script.now (string_bytes s)) }
@@ -101,18 +128,14 @@ fn take_lines<'a, L: Label>(heap: Global, lines: &'a [u8]) -> Result<Notebook<'a
 {
     let mut requests = Vec::new(heap);
     let mut replies = Vec::new(heap);
-    let mut rest = lines;
-    let mut number = 5;
-    while !rest.is_empty() {
-        match take_line(first_line(rest), number) {
+    for (at, line) in (Lines { rest: lines }).enumerate() {
+        match take_line(line, at + 5) {
             Ok(request) => {
                 requests.push(request)?;
                 replies.push(Ok(()))?;
             }
             Err(why) => replies.push(Err(why))?,
         }
-        rest = after_line(rest);
-        number += 1;
     }
     Ok(Notebook { requests, replies })
 }

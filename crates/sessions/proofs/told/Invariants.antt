@@ -10,5 +10,5 @@ invariant-loop-reply g l = record {
   whole :
       string_bytes l.text ++ told_lines g.L.Label.kind (drop l.reply-index l.replies) (map said (iter_rest l.outcomes))
       ≡ told_lines g.L.Label.kind l.replies (map said l.log);
-  left : calls_among (drop l.reply-index l.replies) ≡ length (iter_rest l.outcomes)
+  left : calls_among (drop l.reply-index l.replies) ≡ length (iter_rest l.outcomes);
 }
