@@ -20,6 +20,7 @@ use terms::{Concept, Node, Refusal, Sentence, Sizes};
 // The most cells, entries or words of memory that a script may ask for.
 pub const MOST_MEMORY: u64 = 40_000_000;
 
+// By hand: the value of a constant may call no function, so these three widen by `as`.
 // The greatest number that fits the field of a form.
 const MOST_FORM: u64 = u8::MAX as u64;
 
