@@ -1,28 +1,11 @@
--- Bytes added to a text one after another. Assumes nothing.
-use Rattle.std.proofs.Common.{◌≡◌, ℕ, ◌+◌, ◌-◌, ◌<◌, ◌≤◌, min, cond, eqb, List, [], ◌∷◌, ◌++◌, length, get_or, take, codes, decimal, sym, refl, ap, ◌∙◌, ⊎_elim, append_assoc, arith, take_all}
-use lib.Utf8.{encode, encodes}
-use Rattle.std.proofs.lemmas.List.{append-nil, take_more}
+-- The text of an answer to a call that writes. Assumes nothing.
+use Rattle.std.proofs.Common.{◌≡◌, ℕ, ◌<◌, ◌≤◌, min, cond, eqb, List, [], ◌∷◌, ◌++◌, length, take, codes, decimal, sym, refl, ap, ◌∙◌, ⊎_elim, append_assoc, arith, take_all}
+use lib.Utf8.{encodes}
+use Rattle.std.proofs.lemmas.List.{append-nil}
+use Rattle.terms.specs.declared.Refusal.{Refusal}
+use Rattle.terms.specs.declared.Refusal.TheVariants.{SizesOutsideLimits, MalformedSentence, NoSuchLabel, BookFull, OutOfRange, NotSettled, TooFewPlaces, BoardFull, MemoryTooShort, MalformedDescription, MalformedLine}
+use Rattle.terms.specs.Refusals.{number_of}
 use Rattle.std.proofs.lemmas.Bool.{cases_lt, cond-true, cond-false, eq-eqb, ne_eqb}
-
-encodes_append : (xs ys : List ℕ) → encodes (xs ++ ys) ≡ encodes xs ++ encodes ys
-encodes_append [] ys = refl
-encodes_append (x ∷ xs) ys = ap (λ l. encode x ++ l) (encodes_append xs ys) ∙ sym (append_assoc (encode x) (encodes xs) (encodes ys))
-
-module _ (start bytes : List ℕ) where
-  pub none_added : start ≡ start ++ []
-  none_added = sym (append-nil start)
-
-  pub one_more :
-      (now next : List ℕ) (i c : ℕ) → i < length bytes → c ≡ get_or bytes i 0 → now ≡ start ++ encodes (take i bytes) → next ≡ now ++ encode c
-      → next ≡ start ++ encodes (take (i + 1) bytes)
-  one_more now next i c l is so more =
-      more ∙ ap (λ t. t ++ encode c) so ∙ append_assoc start (encodes (take i bytes)) (encode c)
-      ∙ ap (λ t. start ++ t)
-      (ap (λ b. encodes (take i bytes) ++ encode b) is ∙ ap (λ t. encodes (take i bytes) ++ t) (sym (append-nil (encode (get_or bytes i 0))))
-      ∙ sym (encodes_append (take i bytes) (get_or bytes i 0 ∷ [])) ∙ ap encodes (sym (take_more bytes i 0 l)))
-
-  pub all_added : (now : List ℕ) (i : ℕ) → length bytes ≤ i → now ≡ start ++ encodes (take i bytes) → now ≡ start ++ encodes bytes
-  all_added now i l so = so ∙ ap (λ t. start ++ encodes t) (take_all i bytes l)
 
 take_least : (n : ℕ) (xs : List ℕ) → take (min n (length xs)) xs ≡ take n xs
 take_least n xs =
@@ -32,11 +15,11 @@ take_least n xs =
 
 -- the text of an answer to a call that wrote n bytes
 pub written_is :
-    (final text memory : List ℕ) (n m : ℕ) → final ≡ text ++ encodes (take (m - 0) memory) → text ≡ codes "ok " ++ (decimal n ++ (10 ∷ [])) → m ≡ min n (length memory)
+    (final text memory : List ℕ) (n m : ℕ) → final ≡ text ++ encodes (take m memory) → text ≡ codes "ok " ++ (decimal n ++ (10 ∷ [])) → m ≡ min n (length memory)
     → final ≡ codes "ok " ++ (decimal n ++ (10 ∷ encodes (take n memory)))
 written_is final text memory n m all line least =
-    let part : take (m - 0) memory ≡ take n memory = ap (λ j. take j memory) (omega (arith, least)) ∙ take_least n memory in
-    all ∙ ap (λ t. t ++ encodes (take (m - 0) memory)) line ∙ ap (λ p. (codes "ok " ++ (decimal n ++ (10 ∷ []))) ++ encodes p) part
+    let part : take m memory ≡ take n memory = ap (λ j. take j memory) least ∙ take_least n memory in
+    all ∙ ap (λ t. t ++ encodes (take m memory)) line ∙ ap (λ p. (codes "ok " ++ (decimal n ++ (10 ∷ []))) ++ encodes p) part
     ∙ ap (λ t. codes "ok " ++ t) (append_assoc (decimal n) (10 ∷ []) (encodes (take n memory)))
 
 -- the text of a refusal, and below it what memory that was too short holds
@@ -52,3 +35,17 @@ pub other_is :
     (final text refused memory : List ℕ) (number : ℕ) → final ≡ text → text ≡ refused → (number ≡ 9 → ⊥) → final ≡ refused ++ cond (eqb number 9) (10 ∷ encodes memory) []
 other_is final text refused memory number same is not_nine =
     same ∙ is ∙ sym (append-nil refused) ∙ ap (λ l. refused ++ l) (sym (cond-false (eqb number 9) (10 ∷ encodes memory) [] (ne_eqb number 9 not_nine)))
+
+-- refusal 9 is the one for want of memory
+pub nine_is : (refusal : Refusal) → number_of refusal ≡ 9 → refusal ≡ MemoryTooShort
+nine_is SizesOutsideLimits e = absurd (omega (arith, e))
+nine_is MalformedSentence e = absurd (omega (arith, e))
+nine_is NoSuchLabel e = absurd (omega (arith, e))
+nine_is BookFull e = absurd (omega (arith, e))
+nine_is OutOfRange e = absurd (omega (arith, e))
+nine_is NotSettled e = absurd (omega (arith, e))
+nine_is TooFewPlaces e = absurd (omega (arith, e))
+nine_is BoardFull e = absurd (omega (arith, e))
+nine_is MemoryTooShort e = refl
+nine_is MalformedDescription e = absurd (omega (arith, e))
+nine_is MalformedLine e = absurd (omega (arith, e))

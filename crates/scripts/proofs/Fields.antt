@@ -1,5 +1,5 @@
 -- Numbers with a space before each: where each ends, and what follows it. Assumes nothing.
-use Rattle.std.proofs.Common.{◌≡◌, ℕ, ◌+◌, ◌^◌, ◌<◌, ◌≤◌, List, [], ◌∷◌, ◌++◌, length, get_or, take, drop, set, Some, None, decimal, sym, refl, ap, ◌∙◌, subst, arith}
+use Rattle.std.proofs.Common.{◌≡◌, ℕ, ◌+◌, ◌^◌, ◌<◌, ◌≤◌, List, [], ◌∷◌, ◌++◌, length, get_or, take, drop, set, Some, None, decimal, sym, refl, ap, ◌∙◌, subst, arith, take_all}
 use Rattle.std.specs.List.{AllZip}
 use Rattle.std.proofs.lemmas.List.{append_assoc, append-nil, append_cancel_left, drop_all, drop_more, take_more_set}
 use Rattle.scripts.specs.Lines.{fields}
@@ -58,10 +58,10 @@ found_more word limits line i found rest after n f l k fits small off h = record
 }
 
 -- nothing is left to find, and nothing follows
-pub found_all : (word limits line : List ℕ) (i : ℕ) (found rest : List ℕ) → Found word limits line i found rest → i ≡ length limits → rest ≡ [] → ReadsNumbers word limits line (Some found)
-found_all word limits line i found rest f e h =
-    let now = f.some [] (subst (λ ms. AllZip ◌≤◌ [] ms) (sym (drop_all i limits (omega arith))) tt, h) in
-    let same : take i found ++ [] ≡ take (length limits) found = append-nil (take i found) ∙ ap (λ k. take k found) e in
+pub found_all : (word limits line : List ℕ) (i : ℕ) (found rest : List ℕ) → Found word limits line i found rest → length found ≤ i → length limits ≤ i → rest ≡ [] → ReadsNumbers word limits line (Some found)
+found_all word limits line i found rest f many all h =
+    let now = f.some [] (subst (λ ms. AllZip ◌≤◌ [] ms) (sym (drop_all i limits all)) tt, h) in
+    let same : take i found ++ [] ≡ found = append-nil (take i found) ∙ take_all i found many in
     (subst (λ z. AllZip ◌≤◌ z limits) same now.0, now.1 ∙ ap (λ z. word ++ fields z) same)
 
 -- nothing is left to find, and something follows

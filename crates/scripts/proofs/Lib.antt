@@ -1,3 +1,4 @@
 pub mod Fields
 pub mod Setups
 pub mod Bytes
+pub mod Calls

@@ -2,9 +2,10 @@
 use Rattle.std.specs.Prelude.{◌≡◌, ℕ, ◌^◌, ◌<◌, ◌≤◌, cond, List, [], ◌∷◌, ◌++◌, length, take, Some, None, Ok, Err, codes, decimal, Option, Result, ◌==◌, ◌≢◌}
 use Rattle.std.proofs.Math.Utf8.{encodes}
 use Rattle.labels.specs.Kind.{Kind}
-use Rattle.terms.specs.declared.Sentence.{Sentence}
 use Rattle.terms.specs.declared.Refusal.{Refusal}
-use Rattle.terms.specs.Refusals.{number_of}
+use Rattle.terms.specs.Refusals.{number_of, refused_line}
+use Rattle.terms.specs.Sentences.{relabelled}
+use Rattle.texts.specs.Lines.{misread_line}
 use Rattle.runs.specs.declared.Request.{Request}
 use Rattle.runs.specs.declared.Request.TheVariants as request
 use Rattle.runs.specs.Account.{Answer, done, read, labelled, bytes}
@@ -53,9 +54,9 @@ abbrev pub ReadsLine : List ℕ → Option (Request ℕ) → Type 0
 ReadsLine line (Some q) = FieldsFit q × (line ≡ call_line q)
 ReadsLine line None = (q : Request ℕ) → FieldsFit q → line ≢ call_line q
 
--- the line of a refusal
-abbrev pub refused_line : Refusal → List ℕ
-refused_line e = codes "refused " ++ decimal (number_of e)
+-- the line that tells of a line that is no call
+abbrev pub bad_line : ℕ → List ℕ
+bad_line n = codes "bad line " ++ decimal n
 
 -- bytes as characters of those numbers: a byte below 128 is itself
 abbrev pub as_text : List ℕ → List ℕ
@@ -65,10 +66,6 @@ as_text memory = encodes memory
 abbrev pub written_answer : Result ℕ Refusal → (memory : List ℕ) → List ℕ
 written_answer (Ok n) memory = codes "ok " ++ (decimal n ++ (10 ∷ as_text (take n memory)))
 written_answer (Err e) memory = refused_line e ++ cond (number_of e == 9) (10 ∷ as_text memory) []
-
--- the sentence with another label
-abbrev pub relabelled : {L M : Type 0} → Sentence L → M → Sentence M
-relabelled s label = record { form = s.form; first = s.first; second = s.second; role = s.role; third = s.third; label = label }
 
 module _ {L : Type 0} (k : Kind L) where
   -- the call with its label by number
@@ -92,7 +89,7 @@ module _ {L : Type 0} (k : Kind L) where
   answer_line (done (Ok u)) = codes "ok"
   answer_line (done (Err e)) = refused_line e
   answer_line (read (Ok u)) = codes "ok"
-  answer_line (read (Err bad)) = refused_line bad.refusal ++ (codes " line " ++ decimal bad.line)
+  answer_line (read (Err bad)) = misread_line bad
   answer_line (labelled (Ok l)) = codes "ok " ++ decimal (k.number l)
   answer_line (labelled (Err e)) = refused_line e
   answer_line (bytes r memory) = written_answer r memory

@@ -1,5 +1,6 @@
 -- The four lines that ask for a script's memory, and what it is to read them. Assumes nothing.
-use Rattle.std.specs.Prelude.{◌≡◌, ℕ, zero, suc, ◌^◌, ◌<◌, List, [], ◌∷◌, ◌++◌, Ok, Err, codes, Option, Result}
+use Rattle.std.specs.Prelude.{◌≡◌, ℕ, zero, suc, ◌+◌, ◌^◌, ◌<◌, List, [], ◌∷◌, ◌++◌, Ok, Err, codes, Option, Result}
+use Rattle.scripts.specs.declared.BadLine.{BadLine}
 use Rattle.scripts.specs.declared.LabelKind.{LabelKind}
 use Rattle.scripts.specs.declared.LabelKind.TheVariants as kind
 use Rattle.scripts.specs.declared.BoardPlan.{BoardPlan}
@@ -50,8 +51,11 @@ ReadsBoard line r = Reads BoardFits board_line line r
 abbrev pub LineStands : List ℕ → ℕ → Type 0
 LineStands script n = (s : Setup) × SetupFits s × (line_at n script ≡ setup_line s n)
 
+-- line n of the four is the first that is no setup's
+abbrev pub FirstBad : List ℕ → ℕ → Type 0
+FirstBad script n = (n < 4) × ((k : ℕ) → k < n → LineStands script k) × (LineStands script n → ⊥)
+
 -- the setup that the first four lines are, or the number, from 1 on, of the first of them that is no setup's
-abbrev pub ReadsSetup : List ℕ → Result Setup ℕ → Type 0
+abbrev pub ReadsSetup : List ℕ → Result Setup BadLine → Type 0
 ReadsSetup script (Ok s) = SetupFits s × ((n : ℕ) → n < 4 → line_at n script ≡ setup_line s n)
-ReadsSetup script (Err zero) = ⊥
-ReadsSetup script (Err (suc n)) = (n < 4) × ((k : ℕ) → k < n → LineStands script k) × (LineStands script n → ⊥)
+ReadsSetup script (Err bad) = (n : ℕ) × (bad.number ≡ n + 1) × FirstBad script n

@@ -1,26 +1,26 @@
 // Scripts: a list of calls as text, one to a line below four lines that say what memory to set aside, and the lines that answer them.
 #![tactic(auto)]
 
-ghost use Rattle.std.specs.Prelude.{◌≡◌, ◌≤◌, ◌++◌, length, IfOk, Ok, Err, string_bytes, codes, decimal, OnOk};
+ghost use Rattle.std.specs.Prelude.{◌≡◌, ◌++◌, IfOk, OnOk, Ok, Err, string_bytes};
 ghost use Rattle.runs.specs.Account.{said};
-ghost use Rattle.scripts.specs.Lines.{ReadsLine, SameCall, answer_line, refused_line, written_answer, as_text};
+ghost use Rattle.scripts.specs.Lines.{ReadsLine, SameCall, answer_line, written_answer, as_text};
 ghost use Rattle.lines.specs.Texts.{after_lines};
 ghost use Rattle.scripts.specs.Setups.{ReadsKind, ReadsMemory, ReadsBoard, ReadsSetup};
-ghost use Rattle.scripts.specs.Reading.{ReadsNumbers, ReadsSize, ReadsEnter, ReadsWithdraw, ReadsLabel};
+ghost use Rattle.scripts.specs.Reading.{ReadsNumbers, ReadsCall, settle_call, label_call};
+ghost use Rattle.runs.specs.declared.Request.TheVariants as request;
 
 use labels::Label;
 use lines::{after_line, first_line, first_number};
 use runs::{Outcome, Request};
 use std::alloc::{AllocError, Global};
+use std::error::Error;
+use std::fmt;
 use terms::{Concept, Node, Refusal, Sentence, Sizes};
-use texts::Misread;
-
-// The most numbers that a line has.
-const MOST_NUMBERS: usize = 6;
 
 // The most cells, entries or words of memory that a script may ask for.
 pub const MOST_MEMORY: u64 = 40_000_000;
 
+// By hand: the value of a constant may call no function, so these three widen by `as`.
 // The greatest number that fits the field of a form.
 const MOST_FORM: u64 = u8::MAX as u64;
 
@@ -54,25 +54,36 @@ pub struct Setup {
     pub words: usize,
 }
 
-// The memory that the first four lines of a script ask for, or the number of the first that is missing or not as it should be.
-pub fn setup_of(script: &[u8]) -> Result<Setup, usize>
+// A line of a script that is not as it should be, counted from 1.
+#[derive(Clone, Copy, Debug, PartialEq, Eq)]
+pub struct BadLine {
+    pub number: usize,
+}
+
+impl fmt::Display for BadLine {
+    ghost use Rattle.std.specs.Prelude.{Some};
+    ghost use Rattle.scripts.specs.Lines.{bad_line};
+
+    ghost output = { λ bad. Some (bad_line bad.number) };
+
+    fn fmt<W: fmt::Write>(&self, f: &mut fmt::Formatter<W>) -> fmt::Result {
+        write!(f, "bad line {}", self.number)
+    }
+}
+
+impl Error for BadLine {}
+
+// The memory that the first four lines of a script ask for, or the first of them that is missing or not as it should be.
+pub fn setup_of(script: &[u8]) -> Result<Setup, BadLine>
     ensures { ReadsSetup script.now result }
 {
     let second = after_line(script);
     let third = after_line(second);
     let fourth = after_line(third);
-    let Some(kind) = kind_line(first_line(script)) else {
-        return Err(1);
-    };
-    let Some(cells) = memory_line(first_line(second), b"book") else {
-        return Err(2);
-    };
-    let Some(board) = board_line(first_line(third)) else {
-        return Err(3);
-    };
-    let Some(words) = memory_line(first_line(fourth), b"words") else {
-        return Err(4);
-    };
+    let kind = kind_line(first_line(script)).ok_or(BadLine { number: 1 })?;
+    let cells = memory_line(first_line(second), b"book").ok_or(BadLine { number: 2 })?;
+    let board = board_line(first_line(third)).ok_or(BadLine { number: 3 })?;
+    let words = memory_line(first_line(fourth), b"words").ok_or(BadLine { number: 4 })?;
     Ok(Setup {
         kind,
         cells,
@@ -92,6 +103,7 @@ pub fn calls_of(script: &[u8]) -> &[u8]
 fn kind_line(line: &[u8]) -> Option<LabelKind>
     ensures { ReadsKind line.now result }
 {
+    // By hand: in the last arm of a `match` on byte strings a proof knows no equation that rules out each line.
     if line == b"kind models".as_slice() {
         return Some(LabelKind::Models);
     }
@@ -108,62 +120,49 @@ fn kind_line(line: &[u8]) -> Option<LabelKind>
 fn memory_line(line: &[u8], word: &[u8]) -> Option<usize>
     ensures { ReadsMemory word.now line.now result }
 {
-    let found = numbers(line, word, &[MOST_MEMORY])?;
-    Some(found[0] as usize)
+    let [amount] = numbers(line, word, [MOST_MEMORY])?;
+    Some(amount as usize)
 }
 
 // `board dense CELLS` or `board sparse SIZE ENTRIES`.
 fn board_line(line: &[u8]) -> Option<BoardPlan>
     ensures { ReadsBoard line.now result }
 {
-    if let Some(found) = numbers(line, b"board dense", &[MOST_MEMORY]) {
-        return Some(BoardPlan::Dense(found[0] as usize));
+    if let Some(cells) = memory_line(line, b"board dense") {
+        return Some(BoardPlan::Dense(cells));
     }
-    let found = numbers(line, b"board sparse", &[MOST_SIZE, MOST_MEMORY])?;
-    Some(BoardPlan::Sparse(found[0] as u32, found[1] as usize))
+    let [size, entries] = numbers(line, b"board sparse", [MOST_SIZE, MOST_MEMORY])?;
+    Some(BoardPlan::Sparse(size as u32, entries as usize))
 }
 
 // The call that a line is, with the number of a label in place of the label.
 pub fn request_of(line: &[u8]) -> Option<Request<'_, u64>>
     ensures { ReadsLine line.now result }
 {
-    if let Some(sizes) = size_line(line) {
-        return Some(Request::Size(sizes));
-    }
-    if let Some(sentence) = enter_line(line) {
-        return Some(Request::Enter(sentence));
-    }
-    if let Some(number) = withdraw_line(line) {
-        return Some(Request::Withdraw(number));
-    }
-    if let Some(room) = memory_line(line, b"write") {
-        return Some(Request::Write(room));
-    }
-    if let Some(room) = memory_line(line, b"list") {
-        return Some(Request::List(room));
-    }
-    if line == b"settle".as_slice() {
-        return Some(Request::Settle);
-    }
-    let (node, concept) = label_line(line)?;
-    Some(Request::Label(node, concept))
+    size_line(line)
+        .or_else(|| enter_line(line))
+        .or_else(|| withdraw_line(line))
+        .or_else(|| write_line(line))
+        .or_else(|| list_line(line))
+        .or_else(|| settle_line(line))
+        .or_else(|| label_line(line))
 }
 
 // `size CONCEPTS ROLES UNITS`.
-fn size_line(line: &[u8]) -> Option<Sizes>
-    ensures { ReadsSize line.now result }
+fn size_line(line: &[u8]) -> Option<Request<'_, u64>>
+    ensures { ReadsCall request.Size line.now result }
 {
-    let found = numbers(line, b"size", &[MOST_NAME; 3])?;
-    Some(Sizes {
-        concepts: found[0] as u16,
-        roles: found[1] as u16,
-        individuals: found[2] as u16,
-    })
+    let [concepts, roles, individuals] = numbers(line, b"size", [MOST_NAME; 3])?;
+    Some(Request::Size(Sizes {
+        concepts: concepts as u16,
+        roles: roles as u16,
+        individuals: individuals as u16,
+    }))
 }
 
 // `enter FORM FIRST SECOND ROLE THIRD LABEL`.
-fn enter_line(line: &[u8]) -> Option<Sentence<u64>>
-    ensures { ReadsEnter line.now result }
+fn enter_line(line: &[u8]) -> Option<Request<'_, u64>>
+    ensures { ReadsCall request.Enter line.now result }
 {
     let limits = [
         MOST_FORM,
@@ -173,39 +172,59 @@ fn enter_line(line: &[u8]) -> Option<Sentence<u64>>
         MOST_NAME,
         u64::MAX,
     ];
-    let found = numbers(line, b"enter", &limits)?;
-    Some(Sentence {
-        form: found[0] as u8,
-        first: found[1] as u16,
-        second: found[2] as u16,
-        role: found[3] as u16,
-        third: found[4] as u16,
-        label: found[5],
-    })
+    let [form, first, second, role, third, label] = numbers(line, b"enter", limits)?;
+    Some(Request::Enter(Sentence {
+        form: form as u8,
+        first: first as u16,
+        second: second as u16,
+        role: role as u16,
+        third: third as u16,
+        label,
+    }))
 }
 
 // `withdraw NUMBER`.
-fn withdraw_line(line: &[u8]) -> Option<usize>
-    ensures { ReadsWithdraw line.now result }
+fn withdraw_line(line: &[u8]) -> Option<Request<'_, u64>>
+    ensures { ReadsCall request.Withdraw line.now result }
 {
-    let found = numbers(line, b"withdraw", &[u64::MAX])?;
-    Some(found[0] as usize)
+    let [number] = numbers(line, b"withdraw", [u64::MAX])?;
+    Some(Request::Withdraw(number as usize))
+}
+
+// `write ROOM`.
+fn write_line(line: &[u8]) -> Option<Request<'_, u64>>
+    ensures { ReadsCall request.Write line.now result }
+{
+    Some(Request::Write(memory_line(line, b"write")?))
+}
+
+// `list ROOM`.
+fn list_line(line: &[u8]) -> Option<Request<'_, u64>>
+    ensures { ReadsCall request.List line.now result }
+{
+    Some(Request::List(memory_line(line, b"list")?))
+}
+
+// `settle`.
+fn settle_line(line: &[u8]) -> Option<Request<'_, u64>>
+    ensures { ReadsCall settle_call line.now result }
+{
+    (line == b"settle".as_slice()).then_some(Request::Settle)
 }
 
 // `label NODE CONCEPT`.
-fn label_line(line: &[u8]) -> Option<(Node, Concept)>
-    ensures { ReadsLabel line.now result }
+fn label_line(line: &[u8]) -> Option<Request<'_, u64>>
+    ensures { ReadsCall label_call line.now result }
 {
-    let found = numbers(line, b"label", &[MOST_NAME; 2])?;
-    Some((Node(found[0] as u16), Concept(found[1] as u16)))
+    let [node, concept] = numbers(line, b"label", [MOST_NAME; 2])?;
+    Some(Request::Label(Node(node as u16), Concept(concept as u16)))
 }
 
 // The numbers of a line that is a word and as many numbers as there are limits, a space before each and each up to its limit.
-fn numbers(line: &[u8], word: &[u8], limits: &[u64]) -> Option<[u64; MOST_NUMBERS]>
-    requires { length limits.now ≤ 6 }
-    ensures { ReadsNumbers word.now limits.now line.now result }
+fn numbers<const N: usize>(line: &[u8], word: &[u8], limits: [u64; N]) -> Option<[u64; N]>
+    ensures { ReadsNumbers word.now limits.entry line.now result }
 {
-    let mut found = [0; MOST_NUMBERS];
+    let mut found = [0; N];
     let mut rest = line.strip_prefix(word)?;
     for (at, most) in limits.iter().enumerate() {
         let (number, after) = first_number(rest, *most)?;
@@ -219,23 +238,19 @@ fn numbers(line: &[u8], word: &[u8], limits: &[u64]) -> Option<[u64; MOST_NUMBER
 pub fn labelled<'a, L: Label>(request: &Request<'a, u64>) -> Option<Request<'a, L>>
     ensures { SameCall L.Label.kind request.now result }
 {
-    match request {
-        Request::Size(sizes) => Some(Request::Size(*sizes)),
-        Request::Enter(sentence) => Some(Request::Enter(Sentence {
-            form: sentence.form,
-            first: sentence.first,
-            second: sentence.second,
-            role: sentence.role,
-            third: sentence.third,
-            label: L::from_number(sentence.label)?,
-        })),
-        Request::Withdraw(number) => Some(Request::Withdraw(*number)),
-        Request::Read(text) => Some(Request::Read(text)),
-        Request::Write(room) => Some(Request::Write(*room)),
-        Request::Settle => Some(Request::Settle),
-        Request::Label(node, concept) => Some(Request::Label(*node, *concept)),
-        Request::List(room) => Some(Request::List(*room)),
-    }
+    Some(match request {
+        Request::Size(sizes) => Request::Size(*sizes),
+        Request::Enter(sentence) => {
+            let label = L::from_number(sentence.label)?;
+            Request::Enter(sentence.with_label(label))
+        }
+        Request::Withdraw(number) => Request::Withdraw(*number),
+        Request::Read(text) => Request::Read(text),
+        Request::Write(room) => Request::Write(*room),
+        Request::Settle => Request::Settle,
+        Request::Label(node, concept) => Request::Label(*node, *concept),
+        Request::List(room) => Request::List(*room),
+    })
 }
 
 // The line that answers a call, and below it what the call wrote.
@@ -243,27 +258,13 @@ pub fn answer<L: Label>(heap: Global, outcome: &Outcome<L>) -> Result<String, Al
     ensures { IfOk result (λ s. string_bytes s ≡ answer_line L.Label.kind (said outcome.now)) }
 {
     match outcome {
-        Outcome::Done(Ok(())) => String::from_str(heap, "ok"),
-        Outcome::Done(Err(refusal)) => refused(heap, *refusal),
-        Outcome::Read(Ok(())) => String::from_str(heap, "ok"),
-        Outcome::Read(Err(misread)) => misread_line(heap, *misread),
-        Outcome::Label(Ok(label)) => {
-            let number = label.number();
-            format!(in heap; "ok {number}")
-        }
-        Outcome::Label(Err(refusal)) => refused(heap, *refusal),
+        Outcome::Done(Ok(())) | Outcome::Read(Ok(())) => String::from_str(heap, "ok"),
+        Outcome::Done(Err(refusal)) | Outcome::Label(Err(refusal)) => refusal.to_string(heap),
+        Outcome::Read(Err(misread)) => misread.to_string(heap),
+        Outcome::Label(Ok(label)) => format!(in heap; "ok {}", label.number()),
         Outcome::Bytes(Ok(count), memory) => written(heap, *count, memory),
         Outcome::Bytes(Err(refusal), memory) => short(heap, *refusal, memory),
     }
-}
-
-// The line that tells a refused reading.
-fn misread_line(heap: Global, misread: Misread) -> Result<String, AllocError>
-    ensures { IfOk result (λ s. string_bytes s ≡ refused_line misread.refusal ++ (codes " line " ++ decimal misread.line)) }
-{
-    let number = misread.refusal.number();
-    let line = misread.line;
-    format!(in heap; "refused {number} line {line}")
 }
 
 // The answer to a call that wrote: how much, and below it what was written.
@@ -271,7 +272,7 @@ fn written(heap: Global, count: usize, memory: &[u8]) -> Result<String, AllocErr
     ensures { IfOk result (λ s. string_bytes s ≡ written_answer (Ok count) memory.now) }
 {
     let mut text = format!(in heap; "ok {count}\n")?;
-    push_bytes(&mut text, &memory[0..count.min(memory.len())])?;
+    push_bytes(&mut text, &memory[..count.min(memory.len())])?;
     Ok(text)
 }
 
@@ -279,9 +280,9 @@ fn written(heap: Global, count: usize, memory: &[u8]) -> Result<String, AllocErr
 fn short(heap: Global, refusal: Refusal, memory: &[u8]) -> Result<String, AllocError>
     ensures { IfOk result (λ s. string_bytes s ≡ written_answer (Err refusal) memory.now) }
 {
-    let mut text = refused(heap, refusal)?;
-    if refusal.number() == 9 {
-        text.push_str("\n")?;
+    let mut text = refusal.to_string(heap)?;
+    if refusal == Refusal::MemoryTooShort {
+        text.push('\n')?;
         push_bytes(&mut text, memory)?;
     }
     Ok(text)
@@ -291,23 +292,5 @@ fn short(heap: Global, refusal: Refusal, memory: &[u8]) -> Result<String, AllocE
 fn push_bytes(text: &mut String, bytes: &[u8]) -> Result<(), AllocError>
     ensures { OnOk result (string_bytes text.new ≡ string_bytes text.old ++ as_text bytes.now) }
 {
-    for byte in bytes {
-        text.push(char::from(*byte))?;
-    }
-    Ok(())
-}
-
-// The line that tells a refusal.
-pub fn refused(heap: Global, refusal: Refusal) -> Result<String, AllocError>
-    ensures { IfOk result (λ s. string_bytes s ≡ refused_line refusal) }
-{
-    let number = refusal.number();
-    format!(in heap; "refused {number}")
-}
-
-// The line that tells of a line that is no call, counted from 1.
-pub fn bad_line(heap: Global, number: usize) -> Result<String, AllocError>
-    ensures { IfOk result (λ s. string_bytes s ≡ codes "bad line " ++ decimal number) }
-{
-    format!(in heap; "bad line {number}")
+    text.extend(bytes.iter().map(|byte| char::from(*byte)))
 }

@@ -1,5 +1,5 @@
 -- Lines that are noted, and calls that are made, are answered. Assumes nothing.
-use Rattle.std.proofs.Common.{◌≡◌, ℕ, suc, ◌<◌, List, [], ◌∷◌, ◌++◌, map, length, sym, refl, ap, ◌∙◌, subst, arith}
+use Rattle.std.proofs.Common.{◌≡◌, ℕ, suc, List, [], ◌∷◌, ◌++◌, map, length, sym, refl, ap, ◌∙◌, subst, arith}
 use Rattle.labels.specs.Kind.{Kind}
 use Rattle.boards.specs.Meaning.{Meaning, Made as MadeBoard}
 use Rattle.runs.specs.declared.Request.{Request}
@@ -8,12 +8,11 @@ use Rattle.runs.specs.Account.{Account, Answer, said}
 use Rattle.runs.specs.Law.{Chain, Memory, Run}
 use Rattle.scripts.specs.declared.BoardPlan.{BoardPlan}
 use Rattle.scripts.specs.declared.Setup.{Setup}
-use Rattle.lines.specs.Texts.{LineAndRest}
-use Rattle.sessions.specs.declared.Reply.{Reply}
-use Rattle.sessions.specs.declared.Reply.TheVariants.{Made, NoSuchLabel, BadLine}
+use Rattle.scripts.specs.Lines.{bad_line}
+use Rattle.sessions.specs.declared.Unmade.TheVariants.{NoSuchLabel, BadLine}
 use Rattle.sessions.specs.Answered as answered
 use Rattle.sessions.specs.Answered.{Told, Planned, AnswersIn}
-use Rattle.sessions.specs.Noted.{Notes, Noted, no_line, line_noted, calls_among, told_lines, AnswersFrom}
+use Rattle.sessions.specs.Noted.{Reply, Noted, no_line, call, no_call, calls_among, told_lines, AnswersFrom}
 
 module _ {L : Type 0} (k : Kind L) where
   -- each call of a run has one answer
@@ -29,45 +28,23 @@ module _ {L : Type 0} (k : Kind L) where
   answers_counted {before} {after} {calls} {requests} {os} is h = ap length (sym is) ∙ chain_counted h.start calls os h.end h.chain
 
   -- each reply by the outcome of a call has one call
-  calls_of_line :
-      (n : ℕ) (line : List ℕ) (reply : Reply) (added requests : List (Request L)) (replies : List Reply) → Notes k n line [] reply added
-      → calls_among replies ≡ length requests → calls_among (reply ∷ replies) ≡ length (added ++ requests)
-  calls_of_line n line Made added requests replies h e = ap suc e ∙ ap (λ l. length (l ++ requests)) (sym h.4)
-  calls_of_line n line NoSuchLabel added requests replies h e = e ∙ ap (λ l. length (l ++ requests)) (sym h.3)
-  calls_of_line n line (BadLine number) added requests replies h e = e ∙ ap (λ l. length (l ++ requests)) (sym h.2)
-
   pub calls_counted : {n : ℕ} {text : List ℕ} {replies : List Reply} {requests : List (Request L)} → Noted k n text replies requests → calls_among replies ≡ length requests
   calls_counted no_line = refl
-  calls_counted (line_noted {n} {text} {line} {rest} reply added {replies} {requests} some cut notes noted) =
-      calls_of_line n line reply added requests replies notes (calls_counted noted)
+  calls_counted (call some cut notes noted) = ap suc (calls_counted noted)
+  calls_counted (no_call why some cut notes noted) = calls_counted noted
 
-  -- a line that is noted is told, before what is told of the lines after it
-  line_told :
-      (n : ℕ) (text line rest : List ℕ) (reply : Reply) (added requests : List (Request L)) (replies : List Reply)
-      → 0 < length text → LineAndRest text line rest → Notes k n line [] reply added
-      → ((os : List (Answer L)) → length requests ≡ length os → Told k (suc n) rest requests os (told_lines k replies os))
-      → (os : List (Answer L)) → length (added ++ requests) ≡ length os → Told k n text (added ++ requests) os (told_lines k (reply ∷ replies) os)
-  line_told n text line rest Made added requests replies some cut h later [] e =
-      let none : suc (length requests) ≡ 0 = ap (λ l. length (l ++ requests)) (sym h.4) ∙ e in absurd (omega arith)
-  line_told n text line rest Made added requests replies some cut h later (o ∷ os) e =
-      let many : suc (length requests) ≡ suc (length os) = ap (λ l. length (l ++ requests)) (sym h.4) ∙ e in
-      subst (λ (l : List (Request L)). Told k n text (l ++ requests) (o ∷ os) (told_lines k (Made ∷ replies) (o ∷ os))) (sym h.4)
-      (answered.call some cut h.2 h.3 (later os (omega arith)))
-  line_told n text line rest NoSuchLabel added requests replies some cut h later os e =
-      subst (λ (l : List (Request L)). Told k n text (l ++ requests) os (told_lines k (NoSuchLabel ∷ replies) os)) (sym h.3)
-      (answered.no_label some cut h.1 h.2 (later os (ap (λ l. length (l ++ requests)) (sym h.3) ∙ e)))
-  line_told n text line rest (BadLine number) added requests replies some cut h later os e =
-      subst (λ (l : List (Request L)). Told k n text (l ++ requests) os (told_lines k (BadLine number ∷ replies) os)) (sym h.2)
-      (subst (λ (m : ℕ). Told k n text requests os (told_lines k (BadLine m ∷ replies) os)) (sym h.1)
-      (answered.no_call some cut h.0 (later os (ap (λ l. length (l ++ requests)) (sym h.2) ∙ e))))
-
+  -- lines that are noted are told
   lines_told :
       {n : ℕ} {text : List ℕ} {replies : List Reply} {requests : List (Request L)} → Noted k n text replies requests
       → (os : List (Answer L)) → length requests ≡ length os → Told k n text requests os (told_lines k replies os)
   lines_told no_line [] e = answered.no_line
   lines_told no_line (o ∷ os) e = absurd (omega (arith, e))
-  lines_told (line_noted {n} {text} {line} {rest} reply added {replies} {requests} some cut notes noted) os e =
-      line_told n text line rest reply added requests replies some cut notes (lines_told noted) os e
+  lines_told (call some cut notes noted) [] e = absurd (omega (arith, e))
+  lines_told (call some cut notes noted) (o ∷ os) e = answered.call some cut notes.1 notes.2 (lines_told noted os (omega (arith, e)))
+  lines_told (no_call NoSuchLabel some cut notes noted) os e = answered.no_label some cut notes.1 notes.2 (lines_told noted os e)
+  lines_told (no_call {n} {text} {line} {rest} (BadLine bad) {replies} {requests} some cut notes noted) os e =
+      subst (λ (m : ℕ). Told k n text requests os (bad_line m ++ (10 ∷ told_lines k replies os))) (sym notes.1)
+      (answered.no_call some cut notes.0 (lines_told noted os e))
 
   -- the lines noted, the run of their calls, and the text told of both
   pub answers_from :

@@ -1,3 +1,2 @@
 pub mod Noting
-pub mod Telling
 pub mod Answering

@@ -1,23 +1,21 @@
 -- What a script is answered: the text of the answers, line by line, and the run of its calls. Assumes nothing.
-use Rattle.std.specs.Prelude.{◌≡◌, ℕ, suc, ◌<◌, List, [], ◌∷◌, ◌++◌, length, Some, None, Ok, Err, codes, decimal, Result}
+use Rattle.std.specs.Prelude.{◌≡◌, ℕ, suc, ◌<◌, List, [], ◌∷◌, ◌++◌, length, Some, None, Ok, Err, Result}
 use Rattle.labels.specs.Kind.{Kind}
 use Rattle.labels.specs.Kinds.{model_kind, grade_kind, whole_kind}
 use Rattle.terms.specs.declared.Refusal.TheVariants.{NoSuchLabel}
+use Rattle.terms.specs.Refusals.{refused_line}
 use Rattle.boards.specs.Meaning.{Meaning, Made}
 use Rattle.runs.specs.declared.Request.{Request}
 use Rattle.runs.specs.Account.{Answer}
 use Rattle.runs.specs.Law.{Memory, Run}
+use Rattle.scripts.specs.declared.BadLine.{BadLine}
 use Rattle.scripts.specs.declared.LabelKind.TheVariants as kind
 use Rattle.scripts.specs.declared.BoardPlan.{BoardPlan}
 use Rattle.scripts.specs.declared.BoardPlan.TheVariants as plan
 use Rattle.scripts.specs.declared.Setup.{Setup}
-use Rattle.scripts.specs.Lines.{ReadsLine, SameCall, answer_line, refused_line}
+use Rattle.scripts.specs.Lines.{ReadsLine, SameCall, answer_line, bad_line}
 use Rattle.lines.specs.Texts.{LineAndRest, after_lines}
 use Rattle.scripts.specs.Setups.{ReadsSetup}
-
--- the line that tells of a line that is no call
-abbrev pub bad_line : ℕ → List ℕ
-bad_line n = codes "bad line " ++ decimal n
 
 -- the lines of a text, the first of which is line n, are answered: a call by the next of the answers, a call whose label number is none of
 -- the kind's by refusal 3, and any other line by its number
@@ -62,9 +60,9 @@ AnswersSetup setup lines told =
     ]
 
 -- a script is answered: the lines after its first four, or the number of the first of those four that is not as it should be
-abbrev pub AnsweredBy : (script : List ℕ) → Result Setup ℕ → (told : List ℕ) → Type 0
+abbrev pub AnsweredBy : (script : List ℕ) → Result Setup BadLine → (told : List ℕ) → Type 0
 AnsweredBy script (Ok setup) told = AnswersSetup setup (after_lines 4 script) told
-AnsweredBy script (Err n) told = told ≡ bad_line n ++ (10 ∷ [])
+AnsweredBy script (Err bad) told = told ≡ bad_line bad.number ++ (10 ∷ [])
 
 abbrev pub Answered : (script told : List ℕ) → Type 0
-Answered script told = (setup : Result Setup ℕ) × ReadsSetup script setup × AnsweredBy script setup told
+Answered script told = (setup : Result Setup BadLine) × ReadsSetup script setup × AnsweredBy script setup told

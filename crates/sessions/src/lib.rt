@@ -1,7 +1,7 @@
 // Sessions: a whole script answered. The memory that it asks for is set aside, its calls are made, and each line gets its answer.
 #![tactic(auto)]
 
-ghost use Rattle.std.specs.Prelude.{◌≡◌, [], map, length, replicate, IfOk, vec_len, string_bytes};
+ghost use Rattle.std.specs.Prelude.{◌≡◌, map, length, IfOk, string_bytes};
 ghost use Rattle.runs.specs.Account.{said};
 ghost use Rattle.runs.specs.Law.{memory};
 ghost use Rattle.sessions.specs.Answered.{Answered, AnswersIn};
@@ -12,18 +12,65 @@ use labels::{Grade, Label, Model, Whole};
 use lines::{after_line, first_line};
 use runs::{Outcome, Request, perform};
 use scripts::{
-    BoardPlan, LabelKind, Setup, answer, bad_line, calls_of, labelled, refused, request_of,
-    setup_of,
+    BadLine, BoardPlan, LabelKind, Setup, answer, calls_of, labelled, request_of, setup_of,
 };
 use std::alloc::{AllocError, Global};
+use std::fmt;
 use terms::{Refusal, Sentence};
 
-// How a line below the first four is answered: by the outcome of the next call, or without one.
+// Why a line below the first four makes no call.
 #[derive(Clone, Copy)]
-enum Reply {
-    Made,
+enum Unmade {
     NoSuchLabel,
-    BadLine(usize),
+    BadLine(BadLine),
+}
+
+impl fmt::Display for Unmade {
+    ghost use Rattle.std.specs.Prelude.{Some};
+    ghost use Rattle.sessions.specs.Noted.{unmade_line};
+
+    ghost output = { λ why. Some (unmade_line why) };
+
+    fn fmt<W: fmt::Write>(&self, f: &mut fmt::Formatter<W>) -> fmt::Result {
+        match self {
+            Unmade::NoSuchLabel => write!(f, "{}", Refusal::NoSuchLabel),
+            Unmade::BadLine(bad) => write!(f, "{bad}"),
+        }
+    }
+}
+
+// The calls among the lines, and how each line is answered: by the outcome of the next call, or by why it makes none.
+#[derive(Drop)]
+struct Notebook<'a, L> {
+    requests: Vec<Request<'a, L>>,
+    replies: Vec<Result<(), Unmade>>,
+}
+
+// The lines of a text, each without its line feed.
+#[derive(Drop)]
+struct Lines<'a> {
+    rest: &'a [u8],
+}
+
+impl<'a> Iterator for Lines<'a> {
+    ghost use Rattle.std.specs.Prelude.{length};
+    ghost use Rattle.std.specs.Iterator.{at_most};
+    ghost use Rattle.sessions.specs.Noted.{NextLine};
+
+    type Item = &'a [u8];
+
+    ghost next_gives = { λ before line after. NextLine before.rest.now line after.rest.now };
+
+    ghost remaining = { λ lines. at_most (length lines.rest.now) };
+
+    fn next(&mut self) -> Option<&'a [u8]> {
+        if self.rest.is_empty() {
+            return None;
+        }
+        let line = first_line(self.rest);
+        self.rest = after_line(self.rest);
+        Some(line)
+    }
 }
 
 // The answers to a script, a line each.
@@ -32,11 +79,7 @@ pub fn answers(heap: Global, script: &[u8]) -> Result<String, AllocError>
 {
     let calls = calls_of(script);
     match setup_of(script) {
-        Err(number) => {
-            let mut text = bad_line(heap, number)?;
-            text.push_str("\n")?;
-            Ok(text)
-        }
+        Err(bad) => format!(in heap; "{bad}\n"),
         Ok(setup) => match setup.kind {
             LabelKind::Models => on_board::<Model>(heap, setup, calls),
             LabelKind::Grades => on_board::<Grade>(heap, setup, calls),
@@ -49,42 +92,19 @@ pub fn answers(heap: Global, script: &[u8]) -> Result<String, AllocError>
 fn on_board<L: Label>(heap: Global, setup: Setup, calls: &[u8]) -> Result<String, AllocError>
     ensures { IfOk result (λ s. AnswersIn L.Label.kind setup calls.now (string_bytes s)) }
 {
-    let blank = Sentence {
-        form: 0,
-        first: 0,
-        second: 0,
-        role: 0,
-        third: 0,
-        label: L::none(),
-    };
-    let mut cells = filled(heap, blank, setup.cells)?;
+    let mut cells = vec![in heap; Sentence::<L>::blank(); setup.cells]?;
     match setup.board {
         BoardPlan::Dense(count) => {
-            let mut labels = filled(heap, L::none(), count)?;
+            let mut labels = vec![in heap; L::none(); count]?;
             let mut board = Dense::new(&mut labels);
             answered(heap, &mut cells, &mut board, calls)
         }
         BoardPlan::Sparse(size, count) => {
-            let none = Entry {
-                place: 0,
-                label: L::none(),
-            };
-            let mut entries = filled(heap, none, count)?;
+            let mut entries = vec![in heap; Entry::<L>::blank(); count]?;
             let mut board = Sparse::new(&mut entries, size);
             answered(heap, &mut cells, &mut board, calls)
         }
     }
-}
-
-// Memory of so many items.
-fn filled<T: Copy>(heap: Global, item: T, count: usize) -> Result<Vec<T>, AllocError>
-    ensures { IfOk result (λ v. (v.items ≡ replicate count item) × (vec_len v ≡ count)) }
-{
-    let mut items = Vec::with_capacity(heap, count)?;
-    for _ in 0..count {
-        items.push(item)?;
-    }
-    Ok(items)
 }
 
 // Makes the calls of the lines, and answers each line.
@@ -97,70 +117,55 @@ fn answered<L: Label, B: Board<L>>(
     requires { B.Board.kept board.old }
     ensures { IfOk result (λ s. AnswersFrom L.Label.kind (memory cells.old (B.Board.meaning board.old)) lines.now (string_bytes s)) }
 {
-    let mut requests = Vec::new(heap);
-    let replies = take_lines(heap, lines, &mut requests)?;
+    let Notebook { requests, replies } = take_lines(heap, lines)?;
     let log = perform(cells, board, &requests, heap)?;
     told(heap, &replies, &log)
 }
 
-// Notes the calls of the lines, the first of which is line 5 of the script, and says how each line is answered.
-fn take_lines<'a, L: Label>(
-    heap: Global,
-    lines: &'a [u8],
-    requests: &mut Vec<Request<'a, L>>,
-) -> Result<Vec<Reply>, AllocError>
-    requires { requests.old.items ≡ [] }
-    ensures { IfOk result (λ v. Noted L.Label.kind 5 lines.now v.items requests.new.items) }
+// Notes the lines, the first of which is line 5 of the script.
+fn take_lines<'a, L: Label>(heap: Global, lines: &'a [u8]) -> Result<Notebook<'a, L>, AllocError>
+    ensures { IfOk result (λ notebook. Noted L.Label.kind 5 lines.now notebook.replies.items notebook.requests.items) }
 {
+    let mut requests = Vec::new(heap);
     let mut replies = Vec::new(heap);
-    let mut rest = lines;
-    let mut number = 5;
-    while !rest.is_empty() {
-        let reply = take_line(first_line(rest), number, requests)?;
-        replies.push(reply)?;
-        rest = after_line(rest);
-        number += 1;
+    for (at, line) in (Lines { rest: lines }).enumerate() {
+        match take_line(line, at + 5) {
+            Ok(request) => {
+                requests.push(request)?;
+                replies.push(Ok(()))?;
+            }
+            Err(why) => replies.push(Err(why))?,
+        }
     }
-    Ok(replies)
+    Ok(Notebook { requests, replies })
 }
 
-// Notes the call of a line, if it is one, and says how the line is answered.
-fn take_line<'a, L: Label>(
-    line: &'a [u8],
-    number: usize,
-    requests: &mut Vec<Request<'a, L>>,
-) -> Result<Reply, AllocError>
-    ensures { IfOk result (λ reply. Notes L.Label.kind number line.now requests.old.items reply requests.new.items) }
+// The call that a line of this number is, or why it makes none.
+fn take_line<'a, L: Label>(line: &'a [u8], number: usize) -> Result<Request<'a, L>, Unmade>
+    ensures { Notes L.Label.kind number line.now result }
 {
-    let Some(plain) = request_of(line) else {
-        return Ok(Reply::BadLine(number));
-    };
-    let Some(request) = labelled(&plain) else {
-        return Ok(Reply::NoSuchLabel);
-    };
-    requests.push(request)?;
-    Ok(Reply::Made)
+    let request = request_of(line).ok_or(Unmade::BadLine(BadLine { number }))?;
+    labelled(&request).ok_or(Unmade::NoSuchLabel)
 }
 
 // The answers, a line each, in the order of the lines.
-fn told<L: Label>(heap: Global, replies: &[Reply], log: &[Outcome<L>]) -> Result<String, AllocError>
+fn told<L: Label>(
+    heap: Global,
+    replies: &[Result<(), Unmade>],
+    log: &[Outcome<L>],
+) -> Result<String, AllocError>
     requires { calls_among replies.now ≡ length log.now }
     ensures { IfOk result (λ s. string_bytes s ≡ told_lines L.Label.kind replies.now (map said log.now)) }
 {
     let mut text = String::new(heap);
-    let mut next = 0;
+    let mut outcomes = log.iter();
     for reply in replies {
         let line = match reply {
-            Reply::Made => {
-                let outcome = &log[next];
-                next += 1;
-                answer(heap, outcome)?
-            }
-            Reply::NoSuchLabel => refused(heap, Refusal::NoSuchLabel)?,
-            Reply::BadLine(number) => bad_line(heap, *number)?,
+            Ok(()) => answer(heap, outcomes.next().unwrap())?,
+            Err(why) => why.to_string(heap)?,
         };
         text.push_str(line.as_str())?;
-        text.push_str("\n")?;
+        text.push('\n')?;
     }
     Ok(text)
 }

@@ -3,4 +3,4 @@ use Rattle.scripts.proofs.Fields.{Found}
 use Rattle.scripts.proofs.numbers.Given as goal
 
 abbrev pub invariant-loop-at : goal.invariant-loop-at
-invariant-loop-at l = Found l.word l.limits l.line l.at l.found l.rest × (length l.found ≡ 6)
+invariant-loop-at g l = Found l.word l.fn.limits l.line l.at l.found l.rest × (length l.found ≡ g.row.N)

@@ -1,15 +1,11 @@
-use Rattle.std.proofs.Common.{string_bytes, arith}
-use Rattle.scripts.proofs.Bytes.{none_added, one_more, all_added}
+use Rattle.std.proofs.Common.{rules}
+use Rattle.std.proofs.lemmas.Iterator.{YieldsList-from_slice, YieldsList-from_map}
+use Rattle.std.proofs.lemmas.Iterator.Adapters.{items_from_extend}
+use Rattle.std.proofs.lemmas.List.{map-id}
 use Rattle.scripts.proofs.push_bytes.Goals as goal
-
-pub loop-byte-init : goal.loop-byte-init
-loop-byte-init c = none_added (string_bytes c.args.text.now) c.args.bytes.now
-
-pub loop-byte-preserved : goal.loop-byte-preserved
-loop-byte-preserved c =
-    one_more (string_bytes c.args.text.now) c.args.bytes.now (string_bytes c.loop-byte.text) (string_bytes c.push.new.self) c.loop-byte.byte-index
-    c.from.result (omega arith) c.from.ensures c.loop-byte.invariant c.in_ok-push.ensures.bytes
 
 pub returns : goal.returns
 returns c =
-    all_added (string_bytes c.args.text.now) c.args.bytes.now (string_bytes c.loop-byte.text) c.loop-byte.byte-index c.loop-byte-test.false c.loop-byte.invariant
+    let added = items_from_extend c.extend.result c.extend.ensures.ran
+    (YieldsList-from_map _ (λ b. b) (YieldsList-from_slice c.args.bytes.now cc) c.map.ensures.closure (λ x r q k. search rules)) in
+    rw map-id at added

@@ -1,23 +1,53 @@
-use Rattle.std.proofs.Common.{◌<◌, length, vec_items, sym, add-one, arith}
-use Rattle.std.proofs.lemmas.List.{nil_from_length}
-use Rattle.std.proofs.lemmas.Bool.{eqb-true, eqb-false}
-use Rattle.sessions.proofs.Noting.{completes_more, completes_all}
+use Rattle.std.proofs.Common.{ℕ, ◌+◌, ◌≤◌, length, Ok, Err, vec_items, refl, ap, subst, arith, rules}
+use Rattle.std.specs.Iterator.Adapters.{enumerate_source, enumerate_count}
+use Rattle.sessions.specs.Noted.{Notes}
+use Rattle.sessions.proofs.Noting.{rest_shorter, call_more, no_call_more, completes_all}
 use Rattle.sessions.proofs.take_lines.Goals as goal
 
-pub loop-rest-preserved : goal.loop-rest-preserved
-loop-rest-preserved g c =
-    let l = c.loop-rest in
-    let some : 0 < length l.rest.now = omega (arith, eqb-false _ _ (sym c.loop-rest-test.ensures)) in
-    let shorter = c.after_line-rest.ensures.shorter some in (
-      rw (add-one, c.after_line-rest.ensures.rest)
-          (completes_more g.L.Label.kind 5 c.args.lines.now l.number l.rest.now c.first_line.result.now _
-          (vec_items l.replies) (vec_items c.push.new.self) (vec_items l.requests) (vec_items c.take_line.new.requests) c.in_ok-reply.reply
-          some c.first_line.ensures.whole c.in_ok-reply.ensures c.in_ok-push.ensures.items l.invariant.0),
-      omega (arith, l.invariant.1),
-    )
+pub loop-at-preserved-in-Continue-branch-2 : goal.loop-at-preserved-in-Continue-branch-2
+loop-at-preserved-in-Continue-branch-2 g c =
+    let l = c.loop-at in
+    let k = g.L.Label.kind in
+    let before = l.at-iterator in
+    let after = c.next.new.self in
+    let step = c.in-Some.ensures.steps in
+    let shorter = rest_shorter (enumerate_source before).rest.now c.in-Some.line.now (enumerate_source after).rest.now step.0.0 step.0.1 in
+    let fits : enumerate_count after + length (enumerate_source after).rest.now ≤ length c.args.lines.now = omega (arith, step.2, l.invariant.fits) in
+    record {
+      can_next = search rules;
+      is_finite = search rules;
+      completes =
+          call_more k 5 c.args.lines.now (enumerate_count before + 5) (enumerate_count after + 5) (enumerate_source before).rest.now c.in-Some.line.now
+          (enumerate_source after).rest.now (vec_items l.replies) (vec_items c.push-in-Ok.new.self) (vec_items l.requests) (vec_items c.push.new.self)
+          c.in-Ok.request step.0.0 step.0.1
+          (subst (λ (n : ℕ). Notes k n c.in-Some.line.now (Ok c.in-Ok.request)) (ap (λ n. n + 5) step.1) c.in-Ok.ensures) (omega (arith, step.2))
+          c.in_ok-push-in-Ok-2.ensures.items c.in_ok-push-in-Ok.ensures.items l.invariant.completes;
+      fits = fits;
+    }
+
+pub loop-at-preserved : goal.loop-at-preserved
+loop-at-preserved g c =
+    let l = c.loop-at in
+    let k = g.L.Label.kind in
+    let before = l.at-iterator in
+    let after = c.next.new.self in
+    let step = c.in-Some.ensures.steps in
+    let shorter = rest_shorter (enumerate_source before).rest.now c.in-Some.line.now (enumerate_source after).rest.now step.0.0 step.0.1 in
+    let fits : enumerate_count after + length (enumerate_source after).rest.now ≤ length c.args.lines.now = omega (arith, step.2, l.invariant.fits) in
+    record {
+      can_next = search rules;
+      is_finite = search rules;
+      completes =
+          no_call_more k 5 c.args.lines.now (enumerate_count before + 5) (enumerate_count after + 5) (enumerate_source before).rest.now c.in-Some.line.now
+          (enumerate_source after).rest.now (vec_items l.replies) (vec_items c.push-in-Err.new.self) (vec_items l.requests) (vec_items l.requests)
+          c.in-Err.why step.0.0 step.0.1
+          (subst (λ (n : ℕ). Notes k n c.in-Some.line.now (Err c.in-Err.why)) (ap (λ n. n + 5) step.1) c.in-Err.ensures) (omega (arith, step.2))
+          c.in_ok-push-in-Err.ensures.items refl l.invariant.completes;
+      fits = fits;
+    }
 
 pub returns : goal.returns
 returns g c =
-    let l = c.loop-rest in
-    completes_all g.L.Label.kind 5 c.args.lines.now l.number l.rest.now (vec_items l.replies) (vec_items l.requests)
-    (nil_from_length l.rest.now (eqb-true _ _ (sym c.loop-rest-test.ensures))) l.invariant.0
+    let l = c.loop-at in
+    completes_all g.L.Label.kind 5 c.args.lines.now (enumerate_count l.at-iterator + 5) (enumerate_source l.at-iterator).rest.now
+    (vec_items l.replies) (vec_items l.requests) c.in-None.ensures.steps.0 l.invariant.completes
