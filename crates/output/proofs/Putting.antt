@@ -54,14 +54,13 @@ module _ {X : Type 0} where
       (record { same_memory = q.same_memory ∙ p.same_memory; as_long = q.as_long ∙ p.as_long; leaves = joined old mid new xs ys r p q })
 
   -- where the first is refused, the whole is
-  pub puts_cut : {old new : Output X} {xs zs : List X} {e : Refusal} {r : Outcome} (ys : List X) → zs ≡ xs ++ ys → IsErrAnd r (λ y. y ≡ e) → Puts old xs (Err e) new → Puts old zs r new
-  puts_cut {old} {new} {xs} {zs} {e} {r} ys same left p =
-      let by = err_from_is_err_and r left in
+  pub puts_cut : {old new : Output X} {xs zs : List X} {e : Refusal} (ys : List X) → zs ≡ xs ++ ys → Puts old xs (Err e) new → Puts old zs (Err e) new
+  puts_cut {old} {new} {xs} {zs} {e} ys same p =
       let both = length-append xs ys in
       let before = written_long old in
       let all = length-append (written old) xs in
-      let whole : Puts old (xs ++ ys) (Err e) new =
-      record {
+      subst (λ z. Puts old z (Err e) new) (sym same)
+      (record {
         same_memory = p.same_memory;
         as_long = p.as_long;
         leaves = (
@@ -71,8 +70,13 @@ module _ {X : Type 0} where
           p.leaves.3 ∙ sym (take-append-le (length old.memory.now) (written old ++ xs) ys (omega (arith, p.leaves.1, before, all)))
               ∙ ap (take (length old.memory.now)) (append_assoc (written old) xs ys),
         );
-      } in
-      subst (λ z. Puts old z r new) (sym same) (subst (λ (s : Outcome). Puts old (xs ++ ys) s new) (sym (by.1 ∙ ap Err by.2)) whole)
+      })
+
+  -- what leaves by a `?` is the refusal that came
+  pub puts_left : {old new : Output X} {xs : List X} {e : Refusal} {r : Outcome} → IsErrAnd r (λ y. y ≡ e) → Puts old xs (Err e) new → Puts old xs r new
+  puts_left {old} {new} {xs} {e} {r} left =
+      let by = err_from_is_err_and r left in
+      subst (λ (s : Outcome). Puts old xs s new) (sym (by.1 ∙ ap Err by.2))
 
   -- nothing is put
   pub puts_nothing : (o : Output X) → Puts o [] (Ok tt) o
@@ -88,11 +92,11 @@ module _ {X : Type 0} where
 
     -- refused at an element
     pub puts_more_cut :
-        {mid : Output X} {y : Y} {e : Refusal} {r : Outcome} → i < length ys → y ≡ get_or ys i y → IsErrAnd r (λ d. d ≡ e) → Puts old (flat_map items (take i ys)) (Ok tt) mid
-        → Puts mid (items y) (Err e) new → Puts old (flat_map items ys) r new
-    puts_more_cut below is left p q =
+        {mid : Output X} {y : Y} {e : Refusal} → i < length ys → y ≡ get_or ys i y → Puts old (flat_map items (take i ys)) (Ok tt) mid
+        → Puts mid (items y) (Err e) new → Puts old (flat_map items ys) (Err e) new
+    puts_more_cut below is p q =
         puts_cut (flat_map items (drop (i + 1) ys))
-        (ap (flat_map items) (sym (take-append-drop (i + 1) ys)) ∙ flat_map-append items (take (i + 1) ys) (drop (i + 1) ys)) left
+        (ap (flat_map items) (sym (take-append-drop (i + 1) ys)) ∙ flat_map-append items (take (i + 1) ys) (drop (i + 1) ys))
         (puts_more below is p q)
 
     -- and those of all its elements
@@ -100,25 +104,30 @@ module _ {X : Type 0} where
     puts_all {r} past = subst (λ es. Puts old (flat_map items es) r new) (take_all i ys past)
 
   -- from the start of a memory, the items and their number fill it
-  pub puts_fill : {old new : Output X} {items : List X} → old.count ≡ 0 → Puts old items (Ok tt) new → Fills items old.memory.now (Ok new.count) new.memory.now
-  puts_fill {old} {new} {items} start p =
+  pub puts_fill :
+      {old new : Output X} {items memory back : List X} {n : ℕ} → old.memory.now ≡ memory → old.count ≡ 0 → back ≡ new.memory.now → n ≡ new.count
+      → Puts old items (Ok tt) new → Fills items memory (Ok n) back
+  puts_fill {old} {new} {items} {memory} {back} {n} over start end number p =
       let moves = count_moves old new items p in
       let long = p.as_long in
+      let room = ap length over in
       let whole : take new.count new.memory.now ≡ items = p.leaves.0 ∙ ap (λ n. take n old.memory.now ++ items) start in (
-        omega (arith, moves, start),
-        omega (arith, new.within, long),
-        sym (take-append-drop new.count new.memory.now) ∙ ap (λ z. z ++ drop new.count new.memory.now) whole ∙ ap (λ z. items ++ z) p.leaves.1,
+        omega (arith, moves, start, number),
+        omega (arith, new.within, long, number, room),
+        end ∙ sym (take-append-drop new.count new.memory.now) ∙ ap (λ z. z ++ drop new.count new.memory.now) whole
+            ∙ ap (λ z. items ++ z) (p.leaves.1 ∙ ap (drop new.count) over ∙ ap (λ n. drop n memory) (sym number)),
       )
 
   -- or as many as fit
   pub puts_fill_cut :
-      {old new : Output X} {items : List X} {e : Refusal} (r : Result ℕ Refusal) → old.count ≡ 0 → IsErrAnd r (λ y. y ≡ e) → Puts old items (Err e) new
-      → Fills items old.memory.now r new.memory.now
-  puts_fill_cut {old} {new} {items} {e} r start left p =
+      {old new : Output X} {items memory back : List X} {e : Refusal} (r : Result ℕ Refusal) → old.memory.now ≡ memory → old.count ≡ 0 → back ≡ new.memory.now
+      → IsErrAnd r (λ y. y ≡ e) → Puts old items (Err e) new → Fills items memory r back
+  puts_fill_cut {old} {new} {items} {memory} {back} {e} r over start end left p =
       let by = err_from_is_err_and r left in
-      let whole : Fills items old.memory.now (Err e) new.memory.now = (
+      let room = ap length over in
+      let whole : Fills items memory (Err e) back = (
         p.leaves.0,
-        omega (arith, p.leaves.1, start),
-        p.leaves.3 ∙ ap (λ n. take (length old.memory.now) (take n old.memory.now ++ items)) start,
+        omega (arith, p.leaves.1, start, room),
+        end ∙ p.leaves.3 ∙ ap (λ n. take (length old.memory.now) (take n old.memory.now ++ items)) start ∙ ap (λ n. take n items) room,
       ) in
-      subst (λ (s : Result ℕ Refusal). Fills items old.memory.now s new.memory.now) (sym (by.1 ∙ ap Err by.2)) whole
+      subst (λ (s : Result ℕ Refusal). Fills items memory s back) (sym (by.1 ∙ ap Err by.2)) whole
