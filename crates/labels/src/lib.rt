@@ -123,7 +123,7 @@ impl Label for Grade {
     }
 
     fn holds(self, view: u16) -> bool {
-        view < self.number as u16
+        view < u16::from(self.number)
     }
 
     fn views() -> u16 {
@@ -131,7 +131,7 @@ impl Label for Grade {
     }
 
     fn number(self) -> u64 {
-        self.number as u64
+        u64::from(self.number)
     }
 
     fn from_number(number: u64) -> Option<Grade> {
@@ -174,7 +174,7 @@ impl Label for Whole {
     }
 
     fn number(self) -> u64 {
-        if self.0 { 1 } else { 0 }
+        u64::from(self.0)
     }
 
     fn from_number(number: u64) -> Option<Whole> {

@@ -1,5 +1,4 @@
 pub mod Truths
-pub mod Products
 pub mod Placing
 pub mod Holding
 pub mod Faults

@@ -4,6 +4,10 @@
 ghost use Rattle.std.specs.Prelude.{◌≡◌};
 ghost use Rattle.terms.specs.Refusals.{number_of};
 
+use std::error::Error;
+use std::fmt;
+
+pub mod forms;
 pub mod places;
 pub mod sentences;
 
@@ -34,6 +38,7 @@ pub struct Sizes {
 // A sentence: the field's axiom in normal form, with the label of the views that it holds in.
 #[derive(Clone, Copy)]
 pub struct Sentence<L> {
+    // A number, since any may be handed over: one that is no form's is refused.
     pub form: u8,
     pub first: u16,
     pub second: u16,
@@ -46,24 +51,25 @@ pub struct Sentence<L> {
 #[derive(Clone, Copy, PartialEq, Eq)]
 pub struct Record {
     pub depth: u8,
+    // A number, since any may be handed over: one that is neither 0 nor 1 is refused.
     pub kind: u8,
     pub number: u16,
 }
 
-// Why a call was refused.
-#[derive(Clone, Copy, PartialEq, Eq)]
+// Why a call was refused, and the number by which it is told.
+#[derive(Clone, Copy, Debug, PartialEq, Eq)]
 pub enum Refusal {
-    SizesOutsideLimits,
-    MalformedSentence,
-    NoSuchLabel,
-    BookFull,
-    OutOfRange,
-    NotSettled,
-    TooFewPlaces,
-    BoardFull,
-    MemoryTooShort,
-    MalformedDescription,
-    MalformedLine,
+    SizesOutsideLimits = 1,
+    MalformedSentence = 2,
+    NoSuchLabel = 3,
+    BookFull = 4,
+    OutOfRange = 5,
+    NotSettled = 6,
+    TooFewPlaces = 7,
+    BoardFull = 8,
+    MemoryTooShort = 9,
+    MalformedDescription = 10,
+    MalformedLine = 11,
 }
 
 impl Refusal {
@@ -71,18 +77,19 @@ impl Refusal {
     pub fn number(self) -> u8
         ensures { result ≡ number_of self }
     {
-        match self {
-            Refusal::SizesOutsideLimits => 1,
-            Refusal::MalformedSentence => 2,
-            Refusal::NoSuchLabel => 3,
-            Refusal::BookFull => 4,
-            Refusal::OutOfRange => 5,
-            Refusal::NotSettled => 6,
-            Refusal::TooFewPlaces => 7,
-            Refusal::BoardFull => 8,
-            Refusal::MemoryTooShort => 9,
-            Refusal::MalformedDescription => 10,
-            Refusal::MalformedLine => 11,
-        }
+        self as u8
     }
 }
+
+impl fmt::Display for Refusal {
+    ghost use Rattle.std.specs.Prelude.{Some};
+    ghost use Rattle.terms.specs.Refusals.{refused_line};
+
+    ghost output = { λ refusal. Some (refused_line refusal) };
+
+    fn fmt<W: fmt::Write>(&self, f: &mut fmt::Formatter<W>) -> fmt::Result {
+        write!(f, "refused {}", self.number())
+    }
+}
+
+impl Error for Refusal {}

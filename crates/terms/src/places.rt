@@ -18,7 +18,7 @@ impl Sizes {
     pub fn nodes(self) -> usize
         ensures { result ≡ nodes self }
     {
-        self.concepts as usize + self.individuals as usize
+        usize::from(self.concepts) + usize::from(self.individuals)
     }
 
     // How many places a board must have.
@@ -26,7 +26,7 @@ impl Sizes {
         ensures { result ≡ places self }
     {
         let nodes = self.nodes();
-        nodes * (self.concepts as usize + self.roles as usize * nodes)
+        nodes * (usize::from(self.concepts) + usize::from(self.roles) * nodes)
     }
 
     // How many words a sheet must have.
@@ -40,7 +40,7 @@ impl Sizes {
     pub fn member_place(self, node: Node, concept: Concept) -> usize
         ensures { result ≡ place self (member node.0 concept.0) }
     {
-        node.0 as usize * self.concepts as usize + concept.0 as usize
+        usize::from(node.0) * usize::from(self.concepts) + usize::from(concept.0)
     }
 
     // The place of the link from one node along a role to another.
@@ -48,8 +48,8 @@ impl Sizes {
         ensures { result ≡ place self (link node.0 role.0 other.0) }
     {
         let nodes = self.nodes();
-        let row = node.0 as usize * self.roles as usize + role.0 as usize;
-        nodes * self.concepts as usize + row * nodes + other.0 as usize
+        let row = usize::from(node.0) * usize::from(self.roles) + usize::from(role.0);
+        nodes * usize::from(self.concepts) + row * nodes + usize::from(other.0)
     }
 
     // The node of a concept.
@@ -80,8 +80,6 @@ impl Sizes {
 }
 
 // Within the limits there are at most 34,078,720 places, and each is the place of just one fact.
-pub fn each_place_is_of_one_fact() -> u8
+pub fn each_place_is_of_one_fact()
     ensures { EachPlaceIsOfOneFact }
-{
-    0
-}
+{}

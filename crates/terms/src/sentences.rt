@@ -1,7 +1,8 @@
 // Which sentences keep the rules.
 ghost use Rattle.std.specs.Prelude.{◌≡◌};
-ghost use Rattle.terms.specs.Sentences.{blank_sentence, well_formed};
+ghost use Rattle.terms.specs.Sentences.{blank_sentence, relabelled, well_formed};
 
+use crate::forms::Form;
 use crate::{Sentence, Sizes};
 use labels::Label;
 
@@ -22,24 +23,41 @@ impl<L: Label> Sentence<L> {
 }
 
 impl<L: Copy> Sentence<L> {
+    // The same sentence with another label.
+    pub fn with_label<M>(self, label: M) -> Sentence<M>
+        ensures { result ≡ relabelled self label }
+    {
+        Sentence {
+            form: self.form,
+            first: self.first,
+            second: self.second,
+            role: self.role,
+            third: self.third,
+            label,
+        }
+    }
+
     // Whether the form is one of the six, each name that it uses is in range, and each other is 0.
     pub fn is_well_formed(self, sizes: Sizes) -> bool
         ensures { result ≡ well_formed sizes self }
     {
         let concept = self.first < sizes.concepts;
         let unit = self.first < sizes.individuals;
+        let second = self.second < sizes.concepts;
         let no_second = self.second == 0;
         let role = self.role < sizes.roles;
         let no_role = self.role == 0;
         let third = self.third < sizes.concepts;
         let third_unit = self.third < sizes.individuals;
-        match self.form {
-            1 => concept & no_second & no_role & third,
-            2 => concept & (self.second < sizes.concepts) & no_role & third,
-            3 | 4 => concept & no_second & role & third,
-            5 => unit & no_second & no_role & third,
-            6 => unit & no_second & role & third_unit,
-            _ => false,
+        match Form::try_from(self.form) {
+            Ok(Form::Inclusion) => concept & no_second & no_role & third,
+            Ok(Form::Conjunction) => concept & second & no_role & third,
+            Ok(Form::ExistentialOnRight | Form::ExistentialOnLeft) => {
+                concept & no_second & role & third
+            }
+            Ok(Form::ConceptAssertion) => unit & no_second & no_role & third,
+            Ok(Form::RoleAssertion) => unit & no_second & role & third_unit,
+            Err(_) => false,
         }
     }
 }

@@ -5,7 +5,7 @@ use Rattle.labels.specs.Kind.{Kind}
 use Rattle.terms.specs.declared.Sizes.{Sizes}
 use Rattle.terms.specs.declared.Sentence.{Sentence}
 use Rattle.terms.specs.declared.Refusal.{Refusal}
-use Rattle.terms.specs.Refusals.{number_of}
+use Rattle.terms.specs.Refusals.{refused_line}
 use Rattle.texts.specs.declared.Misread.{Misread}
 
 -- a line of values: decimal numbers parted by single spaces, then LF
@@ -50,10 +50,10 @@ sentence_fits s =
     && (nat_lt s.first (2 ^ 16)
     && (nat_lt s.second (2 ^ 16) && (nat_lt s.role (2 ^ 16) && (nat_lt s.third (2 ^ 16) && nat_lt s.label (2 ^ 64)))))
 
--- how a refusal is told: by its number
-abbrev pub refused_line : Refusal → List ℕ
-refused_line e = codes "refused " ++ decimal (number_of e)
-
 -- how a refused reading is told: the refusal, and the number of the line
 abbrev pub misread_line : Misread → List ℕ
 misread_line bad = refused_line bad.refusal ++ (codes " line " ++ decimal bad.line)
+
+-- a refusal that comes from no line of a text: line 0
+abbrev pub outside_reading : Refusal → Misread
+outside_reading e = record { refusal = e; line = 0 }

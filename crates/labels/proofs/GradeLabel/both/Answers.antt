@@ -1,5 +1,0 @@
-use Rattle.labels.proofs.Grades.{same_grade}
-use Rattle.labels.proofs.GradeLabel.both.Goals as goal
-
-pub returns : goal.returns
-returns c = same_grade _ _ c.min.ensures
