@@ -1,7 +1,6 @@
 -- What a program answers to its input, and the bytes that it prints. Assumes nothing.
 use Rattle.std.specs.Prelude.{◌≡◌, ℕ, ◌<◌, ◌≤◌, true, List, [], ◌∷◌, ◌++◌, length, take, drop, Ok, Err, Result, ◌≢◌}
 use Rattle.labels.specs.Kind.{Kind}
-use Rattle.terms.specs.declared.Refusal.{Refusal}
 use Rattle.terms.specs.declared.Refusal.TheVariants.{TooFewPlaces, BoardFull, MemoryTooShort}
 use Rattle.terms.specs.declared.Sentence.{Sentence}
 use Rattle.terms.specs.Places.{places}
@@ -11,17 +10,13 @@ use Rattle.boards.specs.Meaning.{Meaning, Cleared}
 use Rattle.settling.specs.Settled.{label_on, SettledBoard}
 use Rattle.books.specs.Contents.{Contents, blank_book, marked}
 use Rattle.texts.specs.declared.Misread.{Misread}
-use Rattle.texts.specs.Lines.{misread_line}
+use Rattle.texts.specs.Lines.{misread_line, outside_reading}
 use Rattle.texts.specs.Texts.{ReadBook, RefusedText}
 use Rattle.listings.specs.Listing.{listing}
 
 -- the most bytes of input that are read
 abbrev pub input_room : ℕ
 input_room = 16384
-
--- a refusal outside reading: line 0
-abbrev pub outside_reading : Refusal → Misread
-outside_reading e = record { refusal = e; line = 0 }
 
 -- the line that tells a refusal
 abbrev pub refusal_line : Misread → List ℕ

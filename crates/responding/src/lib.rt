@@ -3,14 +3,15 @@
 
 ghost use Rattle.std.specs.Prelude.{◌≡◌, ◌≤◌, length, IfOk};
 ghost use Rattle.books.specs.Held.{contents, SameCells};
+ghost use Rattle.output.specs.Puts.{Puts};
 ghost use Rattle.responding.specs.Once.{OneAnswer};
-ghost use Rattle.responding.specs.Answers.{outside_reading, Written, holding, Tried, memory, Prints};
+ghost use Rattle.responding.specs.Answers.{refusal_line, Written, holding, Tried, memory, Prints};
 
 use boards::Board;
 use books::Book;
 use labels::Label;
 use listings::list;
-use output::{put_bytes, put_field, put_number};
+use output::Output;
 use std::io;
 use std::io::Read;
 use terms::{Refusal, Sentence};
@@ -59,46 +60,38 @@ fn list_text<L: Label, B: Board<L>>(
     ensures tried { Tried L.Label.kind input.now (holding (contents book.old) (B.Board.meaning board.old) out.old) result (holding (contents book.new) (B.Board.meaning board.new) out.new) }
 {
     if input.len() > INPUT_ROOM {
-        return Err(outside(Refusal::MemoryTooShort));
+        return Err(Misread::from(Refusal::MemoryTooShort));
     }
-    match read_text(book, input) {
-        Err(misread) => Err(misread),
-        Ok(()) => match book.settle(board) {
-            Err(refusal) => Err(outside(refusal)),
-            Ok(()) => match list(book, board, out) {
-                Err(refusal) => Err(outside(refusal)),
-                Ok(count) => Ok(count),
-            },
-        },
-    }
-}
-
-// A refusal that comes from no line of the text.
-fn outside(refusal: Refusal) -> Misread
-    ensures { result ≡ outside_reading refusal }
-{
-    Misread { refusal, line: 0 }
+    read_text(book, input)?;
+    book.settle(board)?;
+    Ok(list(book, board, out)?)
 }
 
 // Writes the line of a refusal over the start of the output. Answers its length.
 fn put_refusal(misread: Misread, out: &mut [u8; OUTPUT_ROOM]) -> usize
     ensures { Written misread out.old result out.new }
 {
-    let word = put_bytes(out, Ok(0), b"refused ");
-    let number = put_number(out, word, misread.refusal.number() as u64);
-    let second_word = put_bytes(out, number, b" line ");
-    match put_field(out, second_word, misread.line as u64, b'\n') {
-        Ok(count) => count,
+    let mut output = Output::new(out);
+    match put_misread(&mut output, misread) {
+        Ok(()) => output.count(),
         Err(_) => unreachable(),
     }
 }
 
-// What is printed is determined by the input and by how much memory there is, not by what the memory held or where labels lie on the board.
-pub fn printed_bytes_are_determined<L: Label>() -> u8
-    ensures { OneAnswer L.Label.kind }
+// Puts the line of a refusal. By hand: `write!` says nothing of why it fails, and this must not fail where there is room.
+fn put_misread(output: &mut Output<'_, u8>, misread: Misread) -> Result<(), Refusal>
+    ensures { Puts output.old (refusal_line misread) result output.new }
 {
-    0
+    output.put_bytes(b"refused ")?;
+    output.put_number(u64::from(misread.refusal.number()))?;
+    output.put_bytes(b" line ")?;
+    output.put_field(misread.line as u64, b'\n')
 }
+
+// What is printed is determined by the input and by how much memory there is, not by what the memory held or where labels lie on the board.
+pub fn printed_bytes_are_determined<L: Label>()
+    ensures { OneAnswer L.Label.kind }
+{}
 
 // Fills memory from a stream, up to the end of either. Answers the number of bytes.
 pub fn read_input<R: Read>(stream: &mut R, into: &mut [u8]) -> io::Result<usize>
