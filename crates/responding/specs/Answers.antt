@@ -120,3 +120,19 @@ pub record Prints {L : Type 0} (k : Kind L) (input : List ℕ) (before : Memory 
   pub board : after.board ≡ held.board
   -- on a largest board there is no refusal 7
   pub places_enough : largest_board ≤ before.board.size → (bad : Misread) → answer ≡ Err bad → bad.refusal ≢ TooFewPlaces
+
+-- memory as a program sets it aside: 512 cells, and a largest board that can hold 2048 labels
+pub record SetAside {L : Type 0} (m : Memory L) : Type 0 where
+  pub cells : length m.cells ≡ 512
+  pub size : m.board.size ≡ largest_board
+  pub capacity : m.board.capacity ≡ 2048
+
+-- the first n bytes of the output are what is printed of some input, in such memory
+pub record PrintsSome {L : Type 0} (k : Kind L) (old : List ℕ) (n : ℕ) (new : List ℕ) : Type 0 where
+  pub input : List ℕ
+  pub before : Memory L
+  pub after : Memory L
+  pub room : SetAside before
+  pub old_out : before.out ≡ old
+  pub new_out : after.out ≡ new
+  pub prints : Prints k input before n after

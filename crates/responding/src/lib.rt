@@ -5,9 +5,10 @@ ghost use Rattle.std.specs.Prelude.{◌≡◌, ◌≤◌, length, IfOk};
 ghost use Rattle.books.specs.Held.{contents, SameCells};
 ghost use Rattle.output.specs.Puts.{Puts};
 ghost use Rattle.responding.specs.Once.{OneAnswer};
-ghost use Rattle.responding.specs.Answers.{refusal_line, Written, holding, Tried, memory, Prints};
+ghost use Rattle.responding.specs.Room.{ArraysFit};
+ghost use Rattle.responding.specs.Answers.{refusal_line, Written, holding, Tried, memory, Prints, PrintsSome};
 
-use boards::Board;
+use boards::{Board, Entry, Sparse};
 use books::Book;
 use labels::Label;
 use listings::list;
@@ -24,8 +25,28 @@ pub const INPUT_ROOM: usize = 16_384;
 // The bytes of output memory.
 pub const OUTPUT_ROOM: usize = 16_384;
 
+// The most sentences of a book.
+pub const SENTENCES: usize = 512;
+
+// The most labels other than none on its board.
+pub const ENTRIES: usize = 2048;
+
 // The largest number of places that a book's labels need.
 pub const LARGEST_BOARD: u32 = 34_078_720;
+
+// Answers a text in labels of this type from a stream: writes what is to be printed, and answers the number of bytes.
+pub fn answer<L: Label>(stream: &mut impl Read, out: &mut [u8; OUTPUT_ROOM]) -> io::Result<usize>
+    requires { ArraysFit L.row }
+    ensures within { IfOk result (λ n. n ≤ 16384) }
+    ensures printed { IfOk result (λ n. PrintsSome L.Label.kind out.old n out.new) }
+{
+    let mut input = [0; INPUT_ROOM + 1];
+    let mut cells = [Sentence::<L>::blank(); SENTENCES];
+    let mut entries = [Entry::<L>::blank(); ENTRIES];
+    let mut board = Sparse::new(&mut entries, LARGEST_BOARD);
+    let count = read_input(stream, &mut input)?;
+    Ok(respond(&input[..count], &mut cells, &mut board, out))
+}
 
 // Reads the input into a book over the cells, settles it on the board, and writes what is to be printed: the listing, or the line of a
 // refusal and nothing else. Answers the number of bytes.
