@@ -8,6 +8,6 @@ use std::io::Write;
 
 fn main(rt: HostRuntime) -> io::Result<()> {
     let mut output = [0; OUTPUT_ROOM];
-    let count = answer::<Model>(&mut rt.stdin(), &mut output)?;
+    let count = answer::<Model, _>(&mut rt.stdin(), &mut output)?;
     rt.write_all(&output[..count])
 }

@@ -1,5 +1,5 @@
 -- What a program answers to its input, and the bytes that it prints. Assumes nothing.
-use Rattle.std.specs.Prelude.{◌≡◌, ℕ, ◌<◌, ◌≤◌, true, List, [], ◌∷◌, ◌++◌, length, take, drop, Ok, Err, Result, ◌≢◌}
+use Rattle.std.specs.Prelude.{◌≡◌, ℕ, ◌+◌, ◌<◌, ◌≤◌, true, List, [], ◌∷◌, ◌++◌, length, take, drop, Ok, Err, Option, Result, ◌≢◌}
 use Rattle.labels.specs.Kind.{Kind}
 use Rattle.terms.specs.declared.Refusal.TheVariants.{TooFewPlaces, BoardFull, MemoryTooShort}
 use Rattle.terms.specs.declared.Sentence.{Sentence}
@@ -13,6 +13,7 @@ use Rattle.texts.specs.declared.Misread.{Misread}
 use Rattle.texts.specs.Lines.{misread_line, outside_reading}
 use Rattle.texts.specs.Texts.{ReadBook, RefusedText}
 use Rattle.listings.specs.Listing.{listing}
+use Rattle.responding.specs.Reading.{Takes}
 
 -- the most bytes of input that are read
 abbrev pub input_room : ℕ
@@ -127,9 +128,10 @@ pub record SetAside {L : Type 0} (m : Memory L) : Type 0 where
   pub size : m.board.size ≡ largest_board
   pub capacity : m.board.capacity ≡ 2048
 
--- the first n bytes of the output are what is printed of some input, in such memory
-pub record PrintsSome {L : Type 0} (k : Kind L) (old : List ℕ) (n : ℕ) (new : List ℕ) : Type 0 where
+-- the first n bytes of the output are what is printed of the stream's bytes, or of as many as show that they are too many, in such memory
+pub record PrintsRead {L : Type 0} (k : Kind L) (stream rest : Option (List ℕ)) (old : List ℕ) (n : ℕ) (new : List ℕ) : Type 0 where
   pub input : List ℕ
+  pub taken : Takes stream input (input_room + 1) rest
   pub before : Memory L
   pub after : Memory L
   pub room : SetAside before

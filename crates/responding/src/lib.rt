@@ -1,12 +1,13 @@
 // From the text of a book to the listing of its labels: every byte that the programs print.
 #![tactic(auto)]
 
-ghost use Rattle.std.specs.Prelude.{◌≡◌, ◌≤◌, length, IfOk};
+ghost use Rattle.std.specs.Prelude.{◌≡◌, ◌≤◌, length, take, IfOk};
 ghost use Rattle.books.specs.Held.{contents, SameCells};
 ghost use Rattle.output.specs.Puts.{Puts};
 ghost use Rattle.responding.specs.Once.{OneAnswer};
 ghost use Rattle.responding.specs.Room.{ArraysFit};
-ghost use Rattle.responding.specs.Answers.{refusal_line, Written, holding, Tried, memory, Prints, PrintsSome};
+ghost use Rattle.responding.specs.Reading.{Takes};
+ghost use Rattle.responding.specs.Answers.{refusal_line, Written, holding, Tried, memory, Prints, PrintsRead};
 
 use boards::{Board, Entry, Sparse};
 use books::Book;
@@ -35,10 +36,10 @@ pub const ENTRIES: usize = 2048;
 pub const LARGEST_BOARD: u32 = 34_078_720;
 
 // Answers a text in labels of this type from a stream: writes what is to be printed, and answers the number of bytes.
-pub fn answer<L: Label>(stream: &mut impl Read, out: &mut [u8; OUTPUT_ROOM]) -> io::Result<usize>
+pub fn answer<L: Label, R: Read>(stream: &mut R, out: &mut [u8; OUTPUT_ROOM]) -> io::Result<usize>
     requires { ArraysFit L.row }
     ensures within { IfOk result (λ n. n ≤ 16384) }
-    ensures printed { IfOk result (λ n. PrintsSome L.Label.kind out.old n out.new) }
+    ensures printed { IfOk result (λ n. PrintsRead L.Label.kind (R.remaining stream.old) (R.remaining stream.new) out.old n out.new) }
 {
     let mut input = [0; INPUT_ROOM + 1];
     let mut cells = [Sentence::<L>::blank(); SENTENCES];
@@ -115,11 +116,13 @@ pub fn printed_bytes_are_determined<L: Label>()
 {}
 
 // Fills memory from a stream, up to the end of either. Answers the number of bytes.
+// By hand: `read_to_end` needs the heap, and `read_exact` refuses a stream that ends early.
 pub fn read_input<R: Read>(stream: &mut R, into: &mut [u8]) -> io::Result<usize>
-    ensures { IfOk result (λ n. n ≤ length into.new) }
+    ensures within { IfOk result (λ n. n ≤ length into.new) }
+    ensures taken { IfOk result (λ n. Takes (R.remaining stream.old) (take n into.new) (length into.new) (R.remaining stream.new)) }
 {
     let mut count = 0;
-    for _ in 0..u64::MAX {
+    for reads in 0..u64::MAX {
         if count >= into.len() {
             return Ok(count);
         }

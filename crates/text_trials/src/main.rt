@@ -27,7 +27,7 @@ fn answer_one<L: Label>(rt: &HostRuntime, path: &str) -> anyhow::Result<()>
     requires { ArraysFit L.row }
 {
     let mut output = [0; OUTPUT_ROOM];
-    let count = answer::<L>(&mut File::open(rt, path)?, &mut output)?;
+    let count = answer::<L, _>(&mut File::open(rt, path)?, &mut output)?;
     println!(rt; "{path}:")?;
     rt.write_all(&output[..count])?;
     Ok(())
