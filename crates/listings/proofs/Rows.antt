@@ -1,5 +1,5 @@
 -- The lines of a node, by the places of its labels. Assumes nothing.
-use Rattle.std.proofs.Common.{◌≡◌, ℕ, ◌+◌, ◌-◌, ◌*◌, ◌<◌, ◌≤◌, true, false, List, [], ◌∷◌, length, Ok, Err, Result, sym, ap, ◌∙◌, subst, arith}
+use Rattle.std.proofs.Common.{◌≡◌, ℕ, ◌+◌, ◌-◌, ◌*◌, ◌<◌, ◌≤◌, true, false, List, [], ◌∷◌, Ok, Err, Result, sym, ap, ◌∙◌, subst, arith}
 use Rattle.std.specs.List.{flat_map}
 use Rattle.labels.specs.Kind.{Kind, some_view}
 use Rattle.terms.specs.declared.Sizes.{Sizes}
@@ -7,11 +7,12 @@ use Rattle.terms.specs.declared.Refusal.{Refusal}
 use Rattle.terms.specs.Lists.{counting}
 use Rattle.terms.specs.Places.{place, member}
 use Rattle.boards.specs.Meaning.{Meaning}
+use Rattle.output.specs.declared.Output.{Output}
 use Rattle.output.specs.Puts.{Puts}
-use Rattle.output.proofs.Putting.{put_nothing}
+use Rattle.output.proofs.Putting.{puts_nothing}
 use Rattle.texts.specs.Lines.{values}
 use Rattle.listings.specs.Listing.{label_line, node_lines}
-use Rattle.listings.proofs.Counts.{front, puts_next, puts_rest, puts_cut}
+use Rattle.listings.proofs.Counts.{front, puts_next, puts_rest, puts_front_cut}
 
 module _ {L : Type 0} (k : Kind L) (m : Meaning L) (top x : ℕ) where
   -- the line of the concept B of a node whose places begin at `top`
@@ -44,44 +45,42 @@ module _ {L : Type 0} (k : Kind L) (m : Meaning L) (top x : ℕ) where
       ∙ sym (ap (λ shown. label_line shown x B (k.number (m.label (top + B)))) (ap (λ q. some_view k (m.label q)) (sym here) ∙ some))
 
   -- before the first place nothing is written
-  pub row_start : (old : List ℕ) (at : ℕ) → at ≤ length old → Puts old (Ok at) (lines_before (top + 1)) (Ok at) old
-  row_start old at within =
+  pub row_start : (o : Output ℕ) → Puts o (lines_before (top + 1)) (Ok tt) o
+  row_start o =
       let none : 0 ≡ top + 1 - (top + 1) = omega arith in
-      subst (λ n. Puts old (Ok at) (front line 1 n) (Ok at) old) none (put_nothing old at within)
+      subst (λ n. Puts o (front line 1 n) (Ok tt) o) none (puts_nothing o)
 
-  module _ (old new : List ℕ) (s : Result ℕ Refusal) where
-    -- the line of the next label that is not none
-    pub row_next :
-        (mid : List ℕ) (from p : ℕ) (l : L) (r t : Result ℕ Refusal) → top + 1 ≤ from → from ≤ p → NoneBetween from p → l ≡ m.label p
-        → some_view k (m.label p) ≡ true → Puts old s (lines_before from) r mid → Puts mid r (values x ((p - top) ∷ (k.number l ∷ []))) t new
-        → Puts old s (lines_before (p + 1)) t new
-    row_next mid from p l r t past le none is some before here =
-        let more : p - (top + 1) + 1 ≡ p + 1 - (top + 1) = omega arith in
-        subst (λ n. Puts old s (front line 1 n) t new) more
-        (puts_next line 1 old new s mid (from - (top + 1)) (p - (top + 1)) r t (omega arith) (no_lines from p past none) before
-        (subst (λ z. Puts mid r z t new) (shown_line p l (omega arith) is some) here))
+  -- the line of the next label that is not none
+  pub row_next :
+      {old mid new : Output ℕ} {r : Result (Unit {0}) Refusal} (from p : ℕ) (l : L) → top + 1 ≤ from → from ≤ p → NoneBetween from p → l ≡ m.label p
+      → some_view k (m.label p) ≡ true → Puts old (lines_before from) (Ok tt) mid → Puts mid (values x ((p - top) ∷ (k.number l ∷ []))) r new
+      → Puts old (lines_before (p + 1)) r new
+  row_next {old} {mid} {new} {r} from p l past le none is some before here =
+      let more : p - (top + 1) + 1 ≡ p + 1 - (top + 1) = omega arith in
+      subst (λ n. Puts old (front line 1 n) r new) more
+      (puts_next line 1 (from - (top + 1)) (p - (top + 1)) (omega arith) (no_lines from p past none) before
+      (subst (λ z. Puts mid z r new) (shown_line p l (omega arith) is some) here))
 
-  module _ (z : Sizes) (start : top ≡ place z (member x 0)) (old new : List ℕ) (s : Result ℕ Refusal) where
+  module _ (z : Sizes) (start : top ≡ place z (member x 0)) {old new : Output ℕ} where
     -- the lines before the place past the node's last are its lines
-    row_whole : (t : Result ℕ Refusal) → Puts old s (front line 1 (z.concepts - 1)) t new → Puts old s (node_lines k z m x) t new
-    row_whole t =
+    row_whole : {r : Result (Unit {0}) Refusal} → Puts old (front line 1 (z.concepts - 1)) r new → Puts old (node_lines k z m x) r new
+    row_whole {r} =
         let first : top ≡ x * z.concepts = omega arith in
         subst
-        (λ n. Puts old s
-        (flat_map (λ B. label_line (some_view k (m.label (n + B))) x B (k.number (m.label (n + B)))) (counting 1 (z.concepts - 1))) t new)
+        (λ n. Puts old
+        (flat_map (λ B. label_line (some_view k (m.label (n + B))) x B (k.number (m.label (n + B)))) (counting 1 (z.concepts - 1))) r new)
         first
 
     -- no label follows
     pub row_ends :
-        (from : ℕ) (t : Result ℕ Refusal) → top + 1 ≤ from → from - (top + 1) ≤ z.concepts - 1 → NoneBetween from (top + z.concepts)
-        → Puts old s (lines_before from) t new → Puts old s (node_lines k z m x) t new
-    row_ends from t past le none h =
-        row_whole t
-        (puts_rest line 1 old new s (from - (top + 1)) (z.concepts - 1) t le
+        {r : Result (Unit {0}) Refusal} (from : ℕ) → top + 1 ≤ from → from - (top + 1) ≤ z.concepts - 1 → NoneBetween from (top + z.concepts)
+        → Puts old (lines_before from) r new → Puts old (node_lines k z m x) r new
+    row_ends from past le none h =
+        row_whole
+        (puts_rest line 1 (from - (top + 1)) (z.concepts - 1) le
         (λ j low high. no_lines from (top + z.concepts) past none j low (omega arith)) h)
 
     -- the memory ran short
     pub row_cut :
-        (p : ℕ) (e : Refusal) → top + 1 ≤ p → p < top + z.concepts → Puts old s (lines_before (p + 1)) (Err e) new
-        → Puts old s (node_lines k z m x) (Err e) new
-    row_cut p e past below h = row_whole (Err e) (puts_cut line 1 old new s (p + 1 - (top + 1)) (z.concepts - 1) e (omega arith) h)
+        {e : Refusal} (p : ℕ) → top + 1 ≤ p → p < top + z.concepts → Puts old (lines_before (p + 1)) (Err e) new → Puts old (node_lines k z m x) (Err e) new
+    row_cut p past below h = row_whole (puts_front_cut line 1 (p + 1 - (top + 1)) (z.concepts - 1) (omega arith) h)

@@ -1,131 +1,133 @@
 -- One writing after another is one writing, and a whole one from the start of a memory fills it. Assumes nothing.
-use Rattle.std.proofs.Common.{◌≡◌, ℕ, suc, ◌+◌, ◌-◌, ◌<◌, ◌≤◌, List, [], ◌∷◌, ◌++◌, length, get_or, take, drop, set, Ok, Err, decimal, Result, sym, refl, ap, ◌∙◌, subst, arith}
+use Rattle.std.proofs.Common.{◌≡◌, ℕ, ◌+◌, ◌-◌, ◌<◌, ◌≤◌, List, [], ◌∷◌, ◌++◌, length, get_or, take, drop, IsErrAnd, Ok, Err, Result, sym, refl, ap, ◌∙◌, subst, arith}
 use Rattle.std.specs.List.{flat_map}
-use Rattle.std.proofs.lemmas.List.{take-append-drop, append_assoc, append-nil, length-append, length-take-le, take_at, drop_at, drop-drop, take-append-le, take_all, length-drop, take_more, take_more_set, drop-set-lt, flat_map_more}
+use Rattle.std.proofs.lemmas.Grind.{flat_map-append}
+use Rattle.std.proofs.lemmas.List.{take-append-drop, append_assoc, append-nil, length-append, length-take-le, drop-drop, take-append-le, take_all, take_more, flat_map_more}
+use Rattle.std.proofs.lemmas.Result.{err_from_is_err_and}
 use Rattle.terms.specs.declared.Refusal.{Refusal}
-use Rattle.terms.specs.declared.Refusal.TheVariants.{MemoryTooShort}
 use Rattle.terms.specs.Refusals.{Fills}
-use Rattle.output.specs.Puts.{Puts}
+use Rattle.output.specs.declared.Output.{Output}
+use Rattle.output.specs.Puts.{written, Leaves, Puts}
 
-take_past : {X : Type 0} (xs ys : List X) (j : ℕ) → take (length xs + j) (xs ++ ys) ≡ xs ++ take j ys
-take_past [] ys j = let e : 0 + j ≡ j = omega arith in ap (λ n. take n ys) e
-take_past (x ∷ xs) ys j =
-    let e : suc (length xs) + j ≡ suc (length xs + j) = omega arith in
-    ap (λ n. take n (x ∷ (xs ++ ys))) e ∙ ap (λ z. x ∷ z) (take_past xs ys j)
+-- how a call of this kind ends
+abbrev Outcome : Type 0
+Outcome = Result (Unit {0}) Refusal
 
--- what stands after a first writing that fits, before its end and past it
-module _ {X : Type 0} (old mid : List X) (at m : ℕ) (xs : List X) (p : Puts old (Ok at) xs (Ok m) mid) where
-  front : length (take at old ++ xs) ≡ m
-  front = length-append (take at old) xs ∙ omega (arith, p.0, p.1, length-take-le at old (omega (arith, p.0, p.1)))
+module _ {X : Type 0} where
+  -- how many items are written
+  written_long : (o : Output X) → length (written o) ≡ o.count
+  written_long o = length-take-le o.count o.memory.now o.within
 
-  parted : mid ≡ (take at old ++ xs) ++ drop m old
-  parted = p.2 ∙ sym (append_assoc (take at old) xs (drop m old))
+  -- an accepted writing moves the place by as many items as it has
+  count_moves : (old new : Output X) (xs : List X) → Puts old xs (Ok tt) new → new.count ≡ old.count + length xs
+  count_moves old new xs p =
+      let a = written_long old in
+      let b = written_long new in
+      let e = ap length p.leaves.0 in
+      let both = length-append (written old) xs in
+      omega (arith, a, b, e, both)
 
-  before : take m mid ≡ take at old ++ xs
-  before = ap (take m) parted ∙ take_at (take at old ++ xs) (drop m old) m front
+  joined : (old mid new : Output X) (xs ys : List X) (r : Outcome) → Puts old xs (Ok tt) mid → Puts mid ys r new → Leaves old (xs ++ ys) r new
+  joined old mid new xs ys (Ok u) p q =
+      let moves = count_moves mid new ys q in
+      let split : new.count ≡ mid.count + (new.count - mid.count) = omega (arith, moves) in (
+        q.leaves.0 ∙ ap (λ z. z ++ ys) p.leaves.0 ∙ append_assoc (written old) xs ys,
+        q.leaves.1 ∙ ap (λ n. drop n mid.memory.now) split ∙ sym (drop-drop (new.count - mid.count) mid.count mid.memory.now)
+            ∙ ap (drop (new.count - mid.count)) p.leaves.1 ∙ drop-drop (new.count - mid.count) mid.count old.memory.now
+            ∙ ap (λ n. drop n old.memory.now) (sym split),
+      )
+  joined old mid new xs ys (Err e) p q =
+      let moves = count_moves old mid xs p in
+      let long = p.as_long in
+      let both = length-append xs ys in (
+        q.leaves.0,
+        omega (arith, q.leaves.1, moves, long, both),
+        q.leaves.2 ∙ long,
+        q.leaves.3 ∙ ap (λ n. take n (written mid ++ ys)) long
+            ∙ ap (take (length old.memory.now)) (ap (λ z. z ++ ys) p.leaves.0 ∙ append_assoc (written old) xs ys),
+      )
 
-  past : (j : ℕ) → drop (m + j) mid ≡ drop (m + j) old
-  past j = sym (drop-drop j m mid) ∙ ap (drop j) (ap (drop m) parted ∙ drop_at (take at old ++ xs) (drop m old) m front) ∙ drop-drop j m old
+  -- two writings one after the other write the joined items
+  pub puts_then : {old mid new : Output X} {xs ys zs : List X} {r : Outcome} → zs ≡ xs ++ ys → Puts old xs (Ok tt) mid → Puts mid ys r new → Puts old zs r new
+  puts_then {old} {mid} {new} {xs} {ys} {zs} {r} e p q =
+      subst (λ z. Puts old z r new) (sym e)
+      (record { same_memory = q.same_memory ∙ p.same_memory; as_long = q.as_long ∙ p.as_long; leaves = joined old mid new xs ys r p q })
 
-  as_long : length mid ≡ length old
-  as_long = ap length parted ∙ length-append (take at old ++ xs) (drop m old) ∙ omega (arith, p.1, front, length-drop m old)
+  -- where the first is refused, the whole is
+  pub puts_cut : {old new : Output X} {xs zs : List X} {e : Refusal} (ys : List X) → zs ≡ xs ++ ys → Puts old xs (Err e) new → Puts old zs (Err e) new
+  puts_cut {old} {new} {xs} {zs} {e} ys same p =
+      let both = length-append xs ys in
+      let before = written_long old in
+      let all = length-append (written old) xs in
+      subst (λ z. Puts old z (Err e) new) (sym same)
+      (record {
+        same_memory = p.same_memory;
+        as_long = p.as_long;
+        leaves = (
+          p.leaves.0,
+          omega (arith, p.leaves.1, both),
+          p.leaves.2,
+          p.leaves.3 ∙ sym (take-append-le (length old.memory.now) (written old ++ xs) ys (omega (arith, p.leaves.1, before, all)))
+              ∙ ap (take (length old.memory.now)) (append_assoc (written old) xs ys),
+        );
+      })
 
--- two writings one after the other write the joined items
-pub puts_then :
-    {X : Type 0} (old mid new xs ys : List X) (s r t : Result ℕ Refusal)
-    → Puts old s xs r mid → Puts mid r ys t new → Puts old s (xs ++ ys) t new
-puts_then old mid new xs ys (Ok at) (Ok m) (Ok n) p q =
-    let long = as_long old mid at m xs p in
-    let both = length-append xs ys in
-    let rest : drop n mid ≡ drop n old = ap (λ k. drop k mid) q.0 ∙ past old mid at m xs p (length ys) ∙ ap (λ k. drop k old) (sym q.0) in (
-      omega (arith, p.0, q.0, both),
-      omega (arith, q.1, long),
-      q.2 ∙ ap (λ z. z ++ (ys ++ drop n mid)) (before old mid at m xs p) ∙ ap (λ z. (take at old ++ xs) ++ (ys ++ z)) rest
-          ∙ append_assoc (take at old) xs (ys ++ drop n old)
-          ∙ ap (λ z. take at old ++ z) (sym (append_assoc xs ys (drop n old))),
-    )
-puts_then old mid new xs ys (Ok at) (Ok m) (Err e) p q =
-    let long = as_long old mid at m xs p in
-    let both = length-append xs ys in
-    let room : length old - at ≡ length xs + (length mid - m) = omega (arith, p.0, p.1, long) in (
-      q.0,
-      omega (arith, p.0, q.1, both, long),
-      q.2 ∙ ap (λ z. z ++ take (length mid - m) ys) (before old mid at m xs p)
-          ∙ append_assoc (take at old) xs (take (length mid - m) ys)
-          ∙ ap (λ z. take at old ++ z) (sym (ap (λ j. take j (xs ++ ys)) room ∙ take_past xs ys (length mid - m))),
-    )
-puts_then old mid new xs ys (Ok at) (Err d) (Ok n) p q = absurd q
-puts_then old mid new xs ys (Ok at) (Err d) (Err e) p q =
-    let both = length-append xs ys in (
-      q.0 ∙ p.0,
-      omega (arith, p.1, both),
-      q.1 ∙ p.2 ∙ ap (λ z. take at old ++ z) (sym (take-append-le (length old - at) xs ys (omega (arith, p.1)))),
-    )
-puts_then old mid new xs ys (Err c) (Ok m) t p q = absurd p
-puts_then old mid new xs ys (Err c) (Err d) (Ok n) p q = absurd q
-puts_then old mid new xs ys (Err c) (Err d) (Err e) p q = (q.0 ∙ p.0, q.1 ∙ p.1)
+  -- what leaves by a `?` is the refusal that came
+  pub puts_left : {old new : Output X} {xs : List X} {e : Refusal} {r : Outcome} → IsErrAnd r (λ y. y ≡ e) → Puts old xs (Err e) new → Puts old xs r new
+  puts_left {old} {new} {xs} {e} {r} left =
+      let by = err_from_is_err_and r left in
+      subst (λ (s : Outcome). Puts old xs s new) (sym (by.1 ∙ ap Err by.2))
 
--- once the memory has run short, more items change nothing
-pub puts_refused : {X : Type 0} (old new xs ys : List X) (s : Result ℕ Refusal) (e : Refusal) → Puts old s xs (Err e) new → Puts old s (xs ++ ys) (Err e) new
-puts_refused old new xs ys s e p = puts_then old new new xs ys s (Err e) (Err e) p (refl, refl)
+  -- nothing is put
+  pub puts_nothing : (o : Output X) → Puts o [] (Ok tt) o
+  puts_nothing o = record { same_memory = refl; as_long = refl; leaves = (sym (append-nil (written o)), refl) }
 
--- the same as two writings, where what they write is known under another name
-pub puts_on :
-    {X : Type 0} (old mid new xs ys zs : List X) (s r t : Result ℕ Refusal)
-    → zs ≡ xs ++ ys → Puts old s xs r mid → Puts mid r ys t new → Puts old s zs t new
-puts_on old mid new xs ys zs s r t e p q = subst (λ z. Puts old s z t new) (sym e) (puts_then old mid new xs ys s r t p q)
+  module _ {Y : Type 0} (items : Y → List X) (ys : List Y) {old new : Output X} {i : ℕ} where
+    -- the items of each element of a list, one element more
+    pub puts_more :
+        {mid : Output X} {y : Y} {r : Outcome} → i < length ys → y ≡ get_or ys i y → Puts old (flat_map items (take i ys)) (Ok tt) mid → Puts mid (items y) r new
+        → Puts old (flat_map items (take (i + 1) ys)) r new
+    puts_more {mid} {y} below is =
+        puts_then (ap (flat_map items) (take_more ys i y below ∙ ap (λ e. take i ys ++ (e ∷ [])) (sym is)) ∙ sym (flat_map_more items [] (take i ys) y))
 
--- a number and the byte that ends it, and then the rest of the line
-pub then_field :
-    (old mid new : List ℕ) (number end : ℕ) (rest : List ℕ) (s r t : Result ℕ Refusal)
-    → Puts old s (decimal number ++ (end ∷ [])) r mid → Puts mid r rest t new → Puts old s (decimal number ++ (end ∷ rest)) t new
-then_field old mid new number end rest s r t =
-    puts_on old mid new (decimal number ++ (end ∷ [])) rest (decimal number ++ (end ∷ rest)) s r t (sym (append_assoc (decimal number) (end ∷ []) rest))
+    -- refused at an element
+    pub puts_more_cut :
+        {mid : Output X} {y : Y} {e : Refusal} → i < length ys → y ≡ get_or ys i y → Puts old (flat_map items (take i ys)) (Ok tt) mid
+        → Puts mid (items y) (Err e) new → Puts old (flat_map items ys) (Err e) new
+    puts_more_cut below is p q =
+        puts_cut (flat_map items (drop (i + 1) ys))
+        (ap (flat_map items) (sym (take-append-drop (i + 1) ys)) ∙ flat_map-append items (take (i + 1) ys) (drop (i + 1) ys))
+        (puts_more below is p q)
 
--- the items of each element of a list, one element more
-pub puts_more :
-    {X Y : Type 0} (items : Y → List X) (old mid new : List X) (ys : List Y) (i : ℕ) (y : Y) (s r t : Result ℕ Refusal)
-    → i < length ys → y ≡ get_or ys i y → Puts old s (flat_map items (take i ys)) r mid → Puts mid r (items y) t new
-    → Puts old s (flat_map items (take (i + 1) ys)) t new
-puts_more items old mid new ys i y s r t below is =
-    puts_on old mid new (flat_map items (take i ys)) (items y) (flat_map items (take (i + 1) ys)) s r t
-    (ap (flat_map items) (take_more ys i y below ∙ ap (λ e. take i ys ++ (e ∷ [])) (sym is)) ∙ sym (flat_map_more items [] (take i ys) y))
+    -- and those of all its elements
+    pub puts_all : {r : Outcome} → length ys ≤ i → Puts old (flat_map items (take i ys)) r new → Puts old (flat_map items ys) r new
+    puts_all {r} past = subst (λ es. Puts old (flat_map items es) r new) (take_all i ys past)
 
--- and those of all its elements
-pub puts_all :
-    {X Y : Type 0} (items : Y → List X) (old new : List X) (ys : List Y) (i : ℕ) (s r : Result ℕ Refusal)
-    → length ys ≤ i → Puts old s (flat_map items (take i ys)) r new → Puts old s (flat_map items ys) r new
-puts_all items old new ys i s r past = subst (λ es. Puts old s (flat_map items es) r new) (take_all i ys past)
+  -- from the start of a memory, the items and their number fill it
+  pub puts_fill :
+      {old new : Output X} {items memory back : List X} {n : ℕ} → old.memory.now ≡ memory → old.count ≡ 0 → back ≡ new.memory.now → n ≡ new.count
+      → Puts old items (Ok tt) new → Fills items memory (Ok n) back
+  puts_fill {old} {new} {items} {memory} {back} {n} over start end number p =
+      let moves = count_moves old new items p in
+      let long = p.as_long in
+      let room = ap length over in
+      let whole : take new.count new.memory.now ≡ items = p.leaves.0 ∙ ap (λ n. take n old.memory.now ++ items) start in (
+        omega (arith, moves, start, number),
+        omega (arith, new.within, long, number, room),
+        end ∙ sym (take-append-drop new.count new.memory.now) ∙ ap (λ z. z ++ drop new.count new.memory.now) whole
+            ∙ ap (λ z. items ++ z) (p.leaves.1 ∙ ap (drop new.count) over ∙ ap (λ n. drop n memory) (sym number)),
+      )
 
--- after a writing, no more items
-pub puts_no_more : {X : Type 0} (old new xs : List X) (s r : Result ℕ Refusal) → Puts old s xs r new → Puts new r [] r new
-puts_no_more old new xs (Ok at) (Ok n) p = (omega arith, omega (arith, p.1, as_long old new at n xs p), sym (take-append-drop n new))
-puts_no_more old new xs (Ok at) (Err e) p = (refl, refl)
-puts_no_more old new xs (Err d) (Ok n) p = absurd p
-puts_no_more old new xs (Err d) (Err e) p = (refl, refl)
-
-pub put_one : {X : Type 0} (old : List X) (at : ℕ) (x : X) → at < length old → Puts old (Ok at) (x ∷ []) (Ok (at + 1)) (set old at x)
-put_one old at x h =
-    let new = set old at x in (
-      refl,
-      omega arith,
-      sym (take-append-drop (at + 1) new) ∙ ap (λ z. z ++ drop (at + 1) new) (take_more_set old at x h)
-          ∙ ap (λ z. (take at old ++ x ∷ []) ++ z) (drop-set-lt (at + 1) old at x (omega arith))
-          ∙ append_assoc (take at old) (x ∷ []) (drop (at + 1) old),
-    )
-
--- at or past the end of the memory no item fits
-pub no_room : {X : Type 0} (old items : List X) (at : ℕ) → length old ≤ at → length old < at + length items → Puts old (Ok at) items (Err MemoryTooShort) old
-no_room old items at h short =
-    let none : length old - at ≡ 0 = omega arith in
-    (refl, short, sym (ap (λ n. take at old ++ take n items) none ∙ append-nil (take at old) ∙ take_all at old h))
-
-pub put_nothing : {X : Type 0} (old : List X) (at : ℕ) → at ≤ length old → Puts old (Ok at) [] (Ok at) old
-put_nothing old at h = (omega arith, h, sym (take-append-drop at old))
-
--- a whole writing from the start of a memory fills it
-pub puts_fill : {X : Type 0} (items old new : List X) (r : Result ℕ Refusal) → Puts old (Ok 0) items r new → Fills items old r new
-puts_fill items old new (Ok n) p = (omega (arith, p.0), p.1, p.2)
-puts_fill items old new (Err e) p =
-    let whole : length old - 0 ≡ length old = omega arith in
-    (p.0, omega (arith, p.1), p.2 ∙ ap (λ n. take n items) whole)
+  -- or as many as fit
+  pub puts_fill_cut :
+      {old new : Output X} {items memory back : List X} {e : Refusal} (r : Result ℕ Refusal) → old.memory.now ≡ memory → old.count ≡ 0 → back ≡ new.memory.now
+      → IsErrAnd r (λ y. y ≡ e) → Puts old items (Err e) new → Fills items memory r back
+  puts_fill_cut {old} {new} {items} {memory} {back} {e} r over start end left p =
+      let by = err_from_is_err_and r left in
+      let room = ap length over in
+      let whole : Fills items memory (Err e) back = (
+        p.leaves.0,
+        omega (arith, p.leaves.1, start, room),
+        end ∙ p.leaves.3 ∙ ap (λ n. take (length old.memory.now) (take n old.memory.now ++ items)) start ∙ ap (λ n. take n items) room,
+      ) in
+      subst (λ (s : Result ℕ Refusal). Fills items memory s back) (sym (by.1 ∙ ap Err by.2)) whole

@@ -1,73 +1,81 @@
 // Output: items written one after another into lent memory, as many as fit.
 #![tactic(auto)]
 
-ghost use Rattle.std.specs.Prelude.{[], ◌∷◌, ◌++◌, decimal};
-ghost use Rattle.output.specs.Puts.{Puts};
+ghost use Rattle.std.specs.Prelude.{◌≤◌, length};
 
 use terms::Refusal;
 
-// Puts an item at the place reached, if one was reached and there is room.
-pub fn put<T: Copy>(out: &mut [T], at: Result<usize, Refusal>, item: T) -> Result<usize, Refusal>
-    ensures { Puts out.old at (item ∷ []) result out.new }
-{
-    match at {
-        Err(refusal) => Err(refusal),
-        Ok(place) => {
-            if place >= out.len() {
-                return Err(Refusal::MemoryTooShort);
-            }
-            out[place] = item;
-            Ok(place + 1)
+// Lent memory, of which the first `count` items are written.
+#[derive(Drop)]
+pub struct Output<'a, T> {
+    memory: &'a mut [T],
+    count: usize,
+    ghost within: { count ≤ length memory.now },
+}
+
+impl<'a, T: Copy> Output<'a, T> {
+    ghost use Rattle.std.specs.Prelude.{◌≡◌, [], ◌∷◌};
+    ghost use Rattle.output.specs.Puts.{Puts};
+
+    // Output to the memory given, of which nothing is written yet.
+    pub fn new(memory: &'a mut [T]) -> Output<'a, T>
+        ensures over_it { result.memory.ghost_name ≡ memory.entry.ghost_name }
+        ensures as_it_was { result.memory.now ≡ memory.old }
+        ensures nothing_yet { result.count ≡ 0 }
+    {
+        Output { memory, count: 0 }
+    }
+
+    // Puts an item, if there is room.
+    pub fn put(&mut self, item: T) -> Result<(), Refusal>
+        ensures { Puts self.old (item ∷ []) result self.new }
+    {
+        if self.count >= self.memory.len() {
+            return Err(Refusal::MemoryTooShort);
         }
+        self.memory[self.count] = item;
+        self.count += 1;
+        Ok(())
+    }
+
+    // How many items are written.
+    pub fn count(&self) -> usize
+        ensures { result ≡ self.now.count }
+    {
+        self.count
     }
 }
 
-// Puts a number in decimal.
-pub fn put_number(out: &mut [u8], at: Result<usize, Refusal>, number: u64) -> Result<usize, Refusal>
-    ensures { Puts out.old at (decimal number) result out.new }
-{
-    if number < 10 {
-        return put(out, at, b'0' + number as u8);
-    }
-    let front = put_number(out, at, number / 10);
-    put(out, front, b'0' + (number % 10) as u8)
-}
+impl Output<'_, u8> {
+    ghost use Rattle.std.specs.Prelude.{[], ◌∷◌, ◌++◌, decimal};
+    ghost use Rattle.output.specs.Puts.{Puts};
 
-// Puts a number in decimal, and the byte that ends it.
-pub fn put_field(
-    out: &mut [u8],
-    at: Result<usize, Refusal>,
-    number: u64,
-    end: u8,
-) -> Result<usize, Refusal>
-    ensures { Puts out.old at (decimal number ++ (end ∷ [])) result out.new }
-{
-    let next = put_number(out, at, number);
-    put(out, next, end)
-}
-
-// Puts bytes.
-pub fn put_bytes(out: &mut [u8], at: Result<usize, Refusal>, bytes: &[u8]) -> Result<usize, Refusal>
-    ensures { Puts out.old at bytes.now result out.new }
-{
-    let mut next = put_nothing(out, at);
-    for byte in bytes {
-        next = put(out, next, *byte);
-    }
-    next
-}
-
-// Puts no item, which is refused at a place past the memory.
-fn put_nothing<T>(out: &[T], at: Result<usize, Refusal>) -> Result<usize, Refusal>
-    ensures { Puts out.now at [] result out.now }
-{
-    match at {
-        Err(refusal) => Err(refusal),
-        Ok(place) => {
-            if place > out.len() {
-                return Err(Refusal::MemoryTooShort);
-            }
-            Ok(place)
+    // Puts a number in decimal.
+    pub fn put_number(&mut self, number: u64) -> Result<(), Refusal>
+        ensures { Puts self.old (decimal number) result self.new }
+    {
+        if number < 10 {
+            return self.put(b'0' + number as u8);
         }
+        self.put_number(number / 10)?;
+        self.put(b'0' + (number % 10) as u8)
+    }
+
+    // Puts a number in decimal, and the byte that ends it.
+    pub fn put_field(&mut self, number: u64, end: u8) -> Result<(), Refusal>
+        ensures { Puts self.old (decimal number ++ (end ∷ [])) result self.new }
+    {
+        self.put_number(number)?;
+        self.put(end)
+    }
+
+    // Puts bytes.
+    pub fn put_bytes(&mut self, bytes: &[u8]) -> Result<(), Refusal>
+        ensures { Puts self.old bytes.now result self.new }
+    {
+        for byte in bytes {
+            self.put(*byte)?;
+        }
+        Ok(())
     }
 }

@@ -1,6 +1,7 @@
 -- From what reading, settling and listing do to the answer. Assumes nothing.
-use Rattle.std.proofs.Common.{◌≡◌, ℕ, ◌<◌, ◌≤◌, Bool, true, false, ltb, List, [], ◌∷◌, ◌++◌, length, take, drop, is_ok, Ok, Err, Result, sym, refl, ap, ◌∙◌, subst, arith, ltb-false, ltb-true}
+use Rattle.std.proofs.Common.{◌≡◌, ℕ, ◌<◌, ◌≤◌, Bool, true, false, ltb, List, [], ◌∷◌, ◌++◌, length, take, drop, is_ok, IsErrAnd, Ok, Err, Result, sym, refl, ap, ◌∙◌, subst, arith, ltb-false, ltb-true}
 use Rattle.std.proofs.lemmas.List.{drop_at}
+use Rattle.std.proofs.lemmas.Result.{err_from_is_err_and}
 use Rattle.labels.specs.Kind.{Kind, Lawful}
 use Rattle.terms.specs.declared.Sentence.{Sentence}
 use Rattle.terms.specs.declared.Refusal.{Refusal}
@@ -15,10 +16,11 @@ use Rattle.settling.specs.Settled.{label_on, Brought, BroughtOrShort}
 use Rattle.books.specs.Contents.{Contents, blank_book, marked}
 use Rattle.books.specs.Settling.{SettlesBook}
 use Rattle.texts.specs.declared.Misread.{Misread}
+use Rattle.texts.specs.Lines.{outside_reading}
 use Rattle.texts.specs.Texts.{Reads, BadLine, no_sizes_header, no_sizes, sizes_outside, no_sentences_header, no_sentence, malformed, no_label, no_cell}
 use Rattle.listings.specs.Listing.{listing, Lists}
 use Rattle.listings.proofs.Same.{not_both}
-use Rattle.responding.specs.Answers.{Held, holding, over, Written, BookOfInput, LabelsOf, Answers, ListingWritten, Tried, outside_reading, too_long, bad_line, too_few_places, too_many_labels, listing_too_long, listed, Memory, memory, Prints}
+use Rattle.responding.specs.Answers.{Held, holding, over, Written, BookOfInput, LabelsOf, Answers, ListingWritten, Tried, too_long, bad_line, too_few_places, too_many_labels, listing_too_long, listed, Memory, memory, Prints}
 
 module _ {L : Type 0} (k : Kind L) (laws : Lawful k) (input : List ℕ) (before : Held L) where
   -- a board brought to the settled labels has them all, and they mean what they should
@@ -41,6 +43,12 @@ module _ {L : Type 0} (k : Kind L) (laws : Lawful k) (input : List ℕ) (before 
 
   pub longer : (bad : Misread) → bad ≡ outside_reading MemoryTooShort → 16384 < length input → Tried k input before (Err bad) before
   longer bad is h = subst (λ (e : Misread). Answers k input before (Err e) before) (sym is) (too_long h)
+
+  -- what leaves by a `?` is the refusal that came
+  pub tried_left : (after : Held L) (bad : Misread) (r : Result ℕ Misread) → IsErrAnd r (λ y. y ≡ bad) → Tried k input before (Err bad) after → Tried k input before r after
+  tried_left after bad r left =
+      let by = err_from_is_err_and r left in
+      subst (λ (s : Result ℕ Misread). Tried k input before s after) (sym (by.1 ∙ ap Err by.2))
 
   pub misread : (bad : Misread) (b : Contents L) → length input ≤ 16384 → Reads k before.book input (Err bad) b → Tried k input before (Err bad) (holding b before.board before.out)
   misread bad b short h = bad_line bad b short h
@@ -86,11 +94,8 @@ module _ {L : Type 0} (k : Kind L) (laws : Lawful k) (input : List ℕ) (before 
     settling_answers : (r : Result (Unit {0}) Refusal) (c : Contents L) (m : Meaning L) → SettlesBook k b before.board r c m → SettlingAnswer b r c m
     settling_answers r c m h = settled_by (ltb before.board.size (places b.sizes)) refl r c m h
 
-    pub unsettled :
-        (e : Refusal) (bad : Misread) (c : Contents L) (m : Meaning L) → bad ≡ outside_reading e → SettlesBook k b before.board (Err e) c m
-        → Tried k input before (Err bad) (holding c m before.out)
-    unsettled e bad c m is h =
-        subst (λ (x : Misread). Answers k input before (Err x) (holding c m before.out)) (sym is) (settling_answers (Err e) c m h)
+    pub unsettled : (e : Refusal) (c : Contents L) (m : Meaning L) → SettlesBook k b before.board (Err e) c m → Tried k input before (Err (outside_reading e)) (holding c m before.out)
+    unsettled e c m h = settling_answers (Err e) c m h
 
     -- the listing of the settled book
     module _ (m : Meaning L) (labels : LabelsOf k input before b m) (out : List ℕ) where
@@ -122,13 +127,12 @@ module _ {L : Type 0} (k : Kind L) (laws : Lawful k) (input : List ℕ) (before 
         (listing_whole m a.1 out n (subst (λ (x : Contents L). Lists k x m before.out (Ok n) out) a.0 l))
 
     pub listed_cut :
-        (e : Refusal) (bad : Misread) (c : Contents L) (m : Meaning L) (out : List ℕ) → bad ≡ outside_reading e → SettlesBook k b before.board (Ok tt) c m
-        → Lists k c m before.out (Err e) out → Tried k input before (Err bad) (holding c m out)
-    listed_cut e bad c m out is h l =
+        (e : Refusal) (c : Contents L) (m : Meaning L) (out : List ℕ) → SettlesBook k b before.board (Ok tt) c m → Lists k c m before.out (Err e) out
+        → Tried k input before (Err (outside_reading e)) (holding c m out)
+    listed_cut e c m out h l =
         let a = settling_answers (Ok tt) c m h in
-        subst (λ (x : Misread). Tried k input before (Err x) (holding c m out)) (sym is)
-        (subst (λ (x : Contents L). Tried k input before (Err (outside_reading e)) (holding x m out)) (sym a.0)
-        (listing_cut m a.1 out e (subst (λ (x : Contents L). Lists k x m before.out (Err e) out) a.0 l)))
+        subst (λ (x : Contents L). Tried k input before (Err (outside_reading e)) (holding x m out)) (sym a.0)
+        (listing_cut m a.1 out e (subst (λ (x : Contents L). Lists k x m before.out (Err e) out) a.0 l))
 
 -- bytes over a memory that they are over already
 over_again : (bytes old : List ℕ) → over bytes old ≡ over bytes (over bytes old)

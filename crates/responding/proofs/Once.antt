@@ -11,13 +11,13 @@ use Rattle.boards.specs.Meaning.{Meaning}
 use Rattle.settling.specs.Settled.{SettledBoard}
 use Rattle.books.specs.Contents.{Contents}
 use Rattle.texts.specs.declared.Misread.{Misread}
-use Rattle.texts.specs.Lines.{numbered, text_of}
+use Rattle.texts.specs.Lines.{numbered, text_of, outside_reading}
 use Rattle.texts.specs.Texts.{BadLine}
 use Rattle.texts.proofs.Once.{one_book}
 use Rattle.texts.proofs.Faults.{one_bad_line}
 use Rattle.listings.specs.Listing.{listing}
 use Rattle.listings.proofs.Same.{overfull_alike, listing_one}
-use Rattle.responding.specs.Answers.{Held, BookOfInput, LabelsOf, Answers, outside_reading, too_long, bad_line, too_few_places, too_many_labels, listing_too_long, listed}
+use Rattle.responding.specs.Answers.{Held, BookOfInput, LabelsOf, Answers, too_long, bad_line, too_few_places, too_many_labels, listing_too_long, listed}
 use Rattle.responding.specs.Once.{OneAnswer}
 
 abbrev Answer : Type 0

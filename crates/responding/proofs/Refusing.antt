@@ -1,13 +1,11 @@
--- The line of a refusal, written piece by piece, and how long it can be. Assumes nothing.
-use Rattle.std.proofs.Common.{◌≡◌, ℕ, ◌^◌, ◌<◌, ◌≤◌, List, [], ◌∷◌, ◌++◌, length, drop, Ok, codes, decimal, Result, sym, ap, ◌∙◌, subst, arith, lit<}
+-- The line of a refusal, in pieces and whole, and how long it can be. Assumes nothing.
+use Rattle.std.proofs.Common.{◌≡◌, ℕ, ◌^◌, ◌<◌, ◌≤◌, List, [], ◌∷◌, ◌++◌, length, drop, Ok, codes, decimal, sym, ap, ◌∙◌, arith, lit<}
 use Rattle.std.proofs.lemmas.Fmt.{length-decimal-le}
 use Rattle.std.proofs.lemmas.List.{append_assoc, length-append}
 use Rattle.terms.specs.declared.Refusal.{Refusal}
 use Rattle.terms.specs.declared.Refusal.TheVariants.{SizesOutsideLimits, MalformedSentence, NoSuchLabel, BookFull, OutOfRange, NotSettled, TooFewPlaces, BoardFull, MemoryTooShort, MalformedDescription, MalformedLine}
-use Rattle.terms.specs.Refusals.{number_of}
+use Rattle.terms.specs.Refusals.{number_of, Fills}
 use Rattle.texts.specs.declared.Misread.{Misread}
-use Rattle.output.specs.Puts.{Puts}
-use Rattle.output.proofs.Putting.{puts_then}
 use Rattle.responding.specs.Answers.{refusal_line, Written}
 
 number_small : (e : Refusal) → number_of e < 12
@@ -24,20 +22,8 @@ number_small MalformedDescription = lit< tt
 number_small MalformedLine = lit< tt
 
 -- the line in four pieces
-parted : (bad : Misread) → codes "refused " ++ (decimal (number_of bad.refusal) ++ (codes " line " ++ (decimal bad.line ++ (10 ∷ [])))) ≡ refusal_line bad
+pub parted : (bad : Misread) → codes "refused " ++ (decimal (number_of bad.refusal) ++ (codes " line " ++ (decimal bad.line ++ (10 ∷ [])))) ≡ refusal_line bad
 parted bad = sym (append_assoc (codes "refused " ++ decimal (number_of bad.refusal)) (codes " line " ++ decimal bad.line) (10 ∷ []) ∙ append_assoc (codes "refused ") (decimal (number_of bad.refusal)) ((codes " line " ++ decimal bad.line) ++ (10 ∷ [])))
-
--- the four pieces make the line
-pub pieces :
-    (bad : Misread) (old a b c new : List ℕ) (number : ℕ) (r s t u : Result ℕ Refusal) → number ≡ number_of bad.refusal
-    → Puts old (Ok 0) (codes "refused ") r a → Puts a r (decimal number) s b → Puts b s (codes " line ") t c
-    → Puts c t (decimal bad.line ++ (10 ∷ [])) u new → Puts old (Ok 0) (refusal_line bad) u new
-pieces bad old a b c new number r s t u is p q v w =
-    let rest : List ℕ = codes " line " ++ (decimal bad.line ++ (10 ∷ [])) in
-    subst (λ l. Puts old (Ok 0) l u new) (ap (λ n. codes "refused " ++ (decimal n ++ rest)) is ∙ parted bad)
-    (puts_then old a new (codes "refused ") (decimal number ++ rest) (Ok 0) r u p
-    (puts_then a b new (decimal number) rest r s u q
-    (puts_then b c new (codes " line ") (decimal bad.line ++ (10 ∷ [])) s t u v w)))
 
 -- the line has at most 55 bytes
 pub line_short : (bad : Misread) → bad.line < 2 ^ 64 → length (refusal_line bad) ≤ 55
@@ -51,8 +37,6 @@ line_short bad small =
     omega (arith, one, two, inner, outer, ap length (parted bad))
 
 -- a line written whole from the start of a memory
-pub line_written :
-    (bad : Misread) (old new : List ℕ) (n : ℕ) → Puts old (Ok 0) (refusal_line bad) (Ok n) new → Written bad old n new
+pub line_written : (bad : Misread) (old new : List ℕ) (n : ℕ) → Fills (refusal_line bad) old (Ok n) new → Written bad old n new
 line_written bad old new n p =
-    let is : n ≡ length (refusal_line bad) = omega (arith, p.0) in
-    record { within = omega (arith, p.1); line = is; written = p.2 ∙ ap (λ i. refusal_line bad ++ drop i old) is }
+    record { within = p.1; line = p.0; written = p.2 ∙ ap (λ i. refusal_line bad ++ drop i old) p.0 }

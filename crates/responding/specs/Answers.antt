@@ -1,7 +1,6 @@
 -- What a program answers to its input, and the bytes that it prints. Assumes nothing.
-use Rattle.std.specs.Prelude.{◌≡◌, ℕ, ◌<◌, ◌≤◌, true, List, [], ◌∷◌, ◌++◌, length, take, drop, Ok, Err, Result, ◌≢◌}
+use Rattle.std.specs.Prelude.{◌≡◌, ℕ, ◌+◌, ◌<◌, ◌≤◌, true, List, [], ◌∷◌, ◌++◌, length, take, drop, Ok, Err, Option, Result, ◌≢◌}
 use Rattle.labels.specs.Kind.{Kind}
-use Rattle.terms.specs.declared.Refusal.{Refusal}
 use Rattle.terms.specs.declared.Refusal.TheVariants.{TooFewPlaces, BoardFull, MemoryTooShort}
 use Rattle.terms.specs.declared.Sentence.{Sentence}
 use Rattle.terms.specs.Places.{places}
@@ -11,17 +10,14 @@ use Rattle.boards.specs.Meaning.{Meaning, Cleared}
 use Rattle.settling.specs.Settled.{label_on, SettledBoard}
 use Rattle.books.specs.Contents.{Contents, blank_book, marked}
 use Rattle.texts.specs.declared.Misread.{Misread}
-use Rattle.texts.specs.Lines.{misread_line}
+use Rattle.texts.specs.Lines.{misread_line, outside_reading}
 use Rattle.texts.specs.Texts.{ReadBook, RefusedText}
 use Rattle.listings.specs.Listing.{listing}
+use Rattle.responding.specs.Reading.{Takes}
 
 -- the most bytes of input that are read
 abbrev pub input_room : ℕ
 input_room = 16384
-
--- a refusal outside reading: line 0
-abbrev pub outside_reading : Refusal → Misread
-outside_reading e = record { refusal = e; line = 0 }
 
 -- the line that tells a refusal
 abbrev pub refusal_line : Misread → List ℕ
@@ -125,3 +121,20 @@ pub record Prints {L : Type 0} (k : Kind L) (input : List ℕ) (before : Memory 
   pub board : after.board ≡ held.board
   -- on a largest board there is no refusal 7
   pub places_enough : largest_board ≤ before.board.size → (bad : Misread) → answer ≡ Err bad → bad.refusal ≢ TooFewPlaces
+
+-- memory as a program sets it aside: 512 cells, and a largest board that can hold 2048 labels
+pub record SetAside {L : Type 0} (m : Memory L) : Type 0 where
+  pub cells : length m.cells ≡ 512
+  pub size : m.board.size ≡ largest_board
+  pub capacity : m.board.capacity ≡ 2048
+
+-- the first n bytes of the output are what is printed of the stream's bytes, or of as many as show that they are too many, in such memory
+pub record PrintsRead {L : Type 0} (k : Kind L) (stream rest : Option (List ℕ)) (old : List ℕ) (n : ℕ) (new : List ℕ) : Type 0 where
+  pub input : List ℕ
+  pub taken : Takes stream input (input_room + 1) rest
+  pub before : Memory L
+  pub after : Memory L
+  pub room : SetAside before
+  pub old_out : before.out ≡ old
+  pub new_out : after.out ≡ new
+  pub prints : Prints k input before n after

@@ -1,16 +1,19 @@
 // From the text of a book to the listing of its labels: every byte that the programs print.
 #![tactic(auto)]
 
-ghost use Rattle.std.specs.Prelude.{◌≡◌, ◌≤◌, length, IfOk};
+ghost use Rattle.std.specs.Prelude.{◌≡◌, ◌≤◌, length, take, IfOk};
 ghost use Rattle.books.specs.Held.{contents, SameCells};
+ghost use Rattle.output.specs.Puts.{Puts};
 ghost use Rattle.responding.specs.Once.{OneAnswer};
-ghost use Rattle.responding.specs.Answers.{outside_reading, Written, holding, Tried, memory, Prints};
+ghost use Rattle.responding.specs.Room.{ArraysFit};
+ghost use Rattle.responding.specs.Reading.{Takes};
+ghost use Rattle.responding.specs.Answers.{refusal_line, Written, holding, Tried, memory, Prints, PrintsRead};
 
-use boards::Board;
+use boards::{Board, Entry, Sparse};
 use books::Book;
 use labels::Label;
 use listings::list;
-use output::{put_bytes, put_field, put_number};
+use output::Output;
 use std::io;
 use std::io::Read;
 use terms::{Refusal, Sentence};
@@ -23,8 +26,28 @@ pub const INPUT_ROOM: usize = 16_384;
 // The bytes of output memory.
 pub const OUTPUT_ROOM: usize = 16_384;
 
+// The most sentences of a book.
+pub const SENTENCES: usize = 512;
+
+// The most labels other than none on its board.
+pub const ENTRIES: usize = 2048;
+
 // The largest number of places that a book's labels need.
 pub const LARGEST_BOARD: u32 = 34_078_720;
+
+// Answers a text in labels of this type from a stream: writes what is to be printed, and answers the number of bytes.
+pub fn answer<L: Label, R: Read>(stream: &mut R, out: &mut [u8; OUTPUT_ROOM]) -> io::Result<usize>
+    requires { ArraysFit L.row }
+    ensures within { IfOk result (λ n. n ≤ 16384) }
+    ensures printed { IfOk result (λ n. PrintsRead L.Label.kind (R.remaining stream.old) (R.remaining stream.new) out.old n out.new) }
+{
+    let mut input = [0; INPUT_ROOM + 1];
+    let mut cells = [Sentence::<L>::blank(); SENTENCES];
+    let mut entries = [Entry::<L>::blank(); ENTRIES];
+    let mut board = Sparse::new(&mut entries, LARGEST_BOARD);
+    let count = read_input(stream, &mut input)?;
+    Ok(respond(&input[..count], &mut cells, &mut board, out))
+}
 
 // Reads the input into a book over the cells, settles it on the board, and writes what is to be printed: the listing, or the line of a
 // refusal and nothing else. Answers the number of bytes.
@@ -59,53 +82,47 @@ fn list_text<L: Label, B: Board<L>>(
     ensures tried { Tried L.Label.kind input.now (holding (contents book.old) (B.Board.meaning board.old) out.old) result (holding (contents book.new) (B.Board.meaning board.new) out.new) }
 {
     if input.len() > INPUT_ROOM {
-        return Err(outside(Refusal::MemoryTooShort));
+        return Err(Misread::from(Refusal::MemoryTooShort));
     }
-    match read_text(book, input) {
-        Err(misread) => Err(misread),
-        Ok(()) => match book.settle(board) {
-            Err(refusal) => Err(outside(refusal)),
-            Ok(()) => match list(book, board, out) {
-                Err(refusal) => Err(outside(refusal)),
-                Ok(count) => Ok(count),
-            },
-        },
-    }
-}
-
-// A refusal that comes from no line of the text.
-fn outside(refusal: Refusal) -> Misread
-    ensures { result ≡ outside_reading refusal }
-{
-    Misread { refusal, line: 0 }
+    read_text(book, input)?;
+    book.settle(board)?;
+    Ok(list(book, board, out)?)
 }
 
 // Writes the line of a refusal over the start of the output. Answers its length.
 fn put_refusal(misread: Misread, out: &mut [u8; OUTPUT_ROOM]) -> usize
     ensures { Written misread out.old result out.new }
 {
-    let word = put_bytes(out, Ok(0), b"refused ");
-    let number = put_number(out, word, misread.refusal.number() as u64);
-    let second_word = put_bytes(out, number, b" line ");
-    match put_field(out, second_word, misread.line as u64, b'\n') {
-        Ok(count) => count,
+    let mut output = Output::new(out);
+    match put_misread(&mut output, misread) {
+        Ok(()) => output.count(),
         Err(_) => unreachable(),
     }
 }
 
-// What is printed is determined by the input and by how much memory there is, not by what the memory held or where labels lie on the board.
-pub fn printed_bytes_are_determined<L: Label>() -> u8
-    ensures { OneAnswer L.Label.kind }
+// Puts the line of a refusal. By hand: `write!` says nothing of why it fails, and this must not fail where there is room.
+fn put_misread(output: &mut Output<'_, u8>, misread: Misread) -> Result<(), Refusal>
+    ensures { Puts output.old (refusal_line misread) result output.new }
 {
-    0
+    output.put_bytes(b"refused ")?;
+    output.put_number(u64::from(misread.refusal.number()))?;
+    output.put_bytes(b" line ")?;
+    output.put_field(misread.line as u64, b'\n')
 }
 
+// What is printed is determined by the input and by how much memory there is, not by what the memory held or where labels lie on the board.
+pub fn printed_bytes_are_determined<L: Label>()
+    ensures { OneAnswer L.Label.kind }
+{}
+
 // Fills memory from a stream, up to the end of either. Answers the number of bytes.
+// By hand: `read_to_end` needs the heap, and `read_exact` refuses a stream that ends early.
 pub fn read_input<R: Read>(stream: &mut R, into: &mut [u8]) -> io::Result<usize>
-    ensures { IfOk result (λ n. n ≤ length into.new) }
+    ensures within { IfOk result (λ n. n ≤ length into.new) }
+    ensures taken { IfOk result (λ n. Takes (R.remaining stream.old) (take n into.new) (length into.new) (R.remaining stream.new)) }
 {
     let mut count = 0;
-    for _ in 0..u64::MAX {
+    for reads in 0..u64::MAX {
         if count >= into.len() {
             return Ok(count);
         }

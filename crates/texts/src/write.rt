@@ -3,59 +3,69 @@ ghost use Rattle.std.specs.Prelude.{◌++◌};
 ghost use Rattle.std.specs.List.{flat_map};
 ghost use Rattle.books.specs.Held.{contents};
 ghost use Rattle.output.specs.Puts.{Puts};
-ghost use Rattle.texts.specs.Lines.{sizes_header, sizes_line, sentences_header, sentence_line, numbered};
+ghost use Rattle.texts.specs.Lines.{values, sizes_header, sizes_line, sentences_header, sentence_line, numbered};
 ghost use Rattle.texts.specs.Texts.{Writes};
 
 use books::Book;
 use labels::Label;
-use output::{put_bytes, put_field};
+use output::Output;
 use terms::{Refusal, Sentence, Sizes};
 
 // Writes the book's text.
 pub fn write_text<L: Label>(book: &Book<'_, L>, out: &mut [u8]) -> Result<usize, Refusal>
     ensures { Writes L.Label.kind (contents book.now) out.old result out.new }
 {
-    let next = put_sizes(out, Ok(0), book.sizes());
-    put_sentences(out, next, book.sentences())
+    let mut output = Output::new(out);
+    put_sizes(&mut output, book.sizes())?;
+    put_sentences(&mut output, book.sentences())?;
+    Ok(output.count())
 }
 
 // Puts the first two lines, on the sizes.
-fn put_sizes(out: &mut [u8], at: Result<usize, Refusal>, sizes: Sizes) -> Result<usize, Refusal>
-    ensures { Puts out.old at (sizes_header ++ sizes_line sizes) result out.new }
+fn put_sizes(output: &mut Output<'_, u8>, sizes: Sizes) -> Result<(), Refusal>
+    ensures { Puts output.old (sizes_header ++ sizes_line sizes) result output.new }
 {
-    let header = put_bytes(out, at, b"concepts roles units\n");
-    let concepts = put_field(out, header, sizes.concepts as u64, b' ');
-    let roles = put_field(out, concepts, sizes.roles as u64, b' ');
-    put_field(out, roles, sizes.individuals as u64, b'\n')
+    output.put_bytes(b"concepts roles units\n")?;
+    let others = [u64::from(sizes.roles), u64::from(sizes.individuals)];
+    put_values(output, u64::from(sizes.concepts), &others)
 }
 
 // Puts the line that names the columns, and a line for each sentence.
 fn put_sentences<L: Label>(
-    out: &mut [u8],
-    at: Result<usize, Refusal>,
+    output: &mut Output<'_, u8>,
     sentences: &[Sentence<L>],
-) -> Result<usize, Refusal>
-    ensures { Puts out.old at (sentences_header ++ flat_map (λ s. sentence_line (numbered L.Label.kind s)) sentences.now) result out.new }
+) -> Result<(), Refusal>
+    ensures { Puts output.old (sentences_header ++ flat_map (λ s. sentence_line (numbered L.Label.kind s)) sentences.now) result output.new }
 {
-    let mut next = put_bytes(out, at, b"form first second role third label\n");
+    output.put_bytes(b"form first second role third label\n")?;
     for sentence in sentences {
-        next = put_sentence(out, next, *sentence);
+        put_sentence(output, *sentence)?;
     }
-    next
+    Ok(())
 }
 
 // Puts the line of a sentence, its label by its number.
-fn put_sentence<L: Label>(
-    out: &mut [u8],
-    at: Result<usize, Refusal>,
-    sentence: Sentence<L>,
-) -> Result<usize, Refusal>
-    ensures { Puts out.old at (sentence_line (numbered L.Label.kind sentence)) result out.new }
+fn put_sentence<L: Label>(output: &mut Output<'_, u8>, sentence: Sentence<L>) -> Result<(), Refusal>
+    ensures { Puts output.old (sentence_line (numbered L.Label.kind sentence)) result output.new }
 {
-    let form = put_field(out, at, sentence.form as u64, b' ');
-    let first = put_field(out, form, sentence.first as u64, b' ');
-    let second = put_field(out, first, sentence.second as u64, b' ');
-    let role = put_field(out, second, sentence.role as u64, b' ');
-    let third = put_field(out, role, sentence.third as u64, b' ');
-    put_field(out, third, sentence.label.number(), b'\n')
+    let others = [
+        u64::from(sentence.first),
+        u64::from(sentence.second),
+        u64::from(sentence.role),
+        u64::from(sentence.third),
+        sentence.label.number(),
+    ];
+    put_values(output, u64::from(sentence.form), &others)
+}
+
+// Puts a line of numbers parted by single spaces.
+pub fn put_values(output: &mut Output<'_, u8>, first: u64, others: &[u64]) -> Result<(), Refusal>
+    ensures { Puts output.old (values first others.now) result output.new }
+{
+    output.put_number(first)?;
+    for other in others {
+        output.put(b' ')?;
+        output.put_number(*other)?;
+    }
+    output.put(b'\n')
 }

@@ -1,34 +1,31 @@
-use Rattle.std.proofs.Common.{◌≡◌, not, [], ◌∷◌, length, take, Ok, sym, refl, ap, ◌∙◌, subst}
+use Rattle.std.proofs.Common.{◌≡◌, ℕ, true, not, List, [], ◌∷◌, Ok, Result, sym, refl, ap, subst, rules}
+use Rattle.labels.specs.Kind.{Kind}
+use Rattle.terms.specs.declared.Refusal.{Refusal}
 use Rattle.terms.specs.declared.Refusal.TheVariants.{NotSettled}
-use Rattle.terms.specs.Places.{outside_limits}
 use Rattle.terms.specs.Refusals.{first_fault, Fills}
 use Rattle.terms.proofs.Faults.{past_check, faultless}
-use Rattle.terms.proofs.Holding.{holdable_parts}
-use Rattle.books.proofs.Sound.{sound_can_be}
+use Rattle.boards.specs.Meaning.{Meaning}
+use Rattle.books.specs.Contents.{Contents}
+use Rattle.books.specs.Held.{contents}
 use Rattle.output.specs.Puts.{Puts}
 use Rattle.output.proofs.Putting.{puts_fill}
-use Rattle.listings.specs.Listing.{listing}
+use Rattle.listings.specs.Listing.{listing, Lists}
 use Rattle.listings.proofs.list.Goals as goal
 
-pub put_listing-requires : goal.put_listing-requires
-put_listing-requires g c =
-    let b = c.args.book.now in
-    let cells = b.cells.now in
-    let can_be = sound_can_be cells b.count b.sizes b.sound in
-    record {
-      kept = c.requires;
-      limits = ap outside_limits c.sizes.ensures ∙ (holdable_parts (length cells) b.sizes (take b.count cells) can_be).limits;
-    }
+-- the listing of a settled book
+of_settled :
+    {L : Type 0} (k : Kind L) (b : Contents L) (m : Meaning L) (old new : List ℕ) (r : Result ℕ Refusal) → true ≡ b.settled
+    → Fills (listing k b.sizes m) old r new → Lists k b m old r new
+of_settled k b m old new r settled =
+    faultless (first_fault ((not b.settled, NotSettled) ∷ [])) r (new ≡ old) (λ answer. Fills (listing k b.sizes m) old answer new)
+    (past_check (not b.settled) NotSettled [] (ap not (sym settled)) refl)
 
 pub returns : goal.returns
 returns g c =
-    let b = c.args.book.now in
     let k = g.L.Label.kind in
     let m = g.B.Board.meaning c.args.board.now in
-    let old = c.args.out.now in
-    let new = c.put_listing.new.out in
-    let r = c.put_listing.result in
-    faultless (first_fault ((not b.settled, NotSettled) ∷ [])) r (new ≡ old) (λ answer. Fills (listing k b.sizes m) old answer new)
-    (past_check (not b.settled) NotSettled [] (ap not (sym c.if-not-is_settled.ensures)) refl)
-    (puts_fill (listing k b.sizes m) old new r
-    (subst (λ z. Puts old (Ok 0) (listing k z m) r new) c.sizes.ensures c.put_listing.ensures))
+    let begun = c.new-output.ensures in
+    let same = c.put_listing.ensures.same_memory in
+    of_settled k (contents c.args.book.now) m c.args.out.now _ (Ok c.count.result) c.if-not-is_settled.ensures
+    (puts_fill begun.as_it_was begun.nothing_yet (search rules) c.count.ensures
+    (subst (λ z. Puts c.new-output.result (listing k z m) (Ok tt) c.put_listing.new.output) c.sizes.ensures c.in_ok-put_listing.ensures))

@@ -6,5 +6,4 @@ use Rattle.listings.proofs.put_listing.Given as goal
 
 abbrev pub invariant-loop-number : goal.invariant-loop-number
 invariant-loop-number g l =
-    Puts l.initial.out (Ok l.initial.reached) (front (node_lines g.L.Label.kind l.sizes (g.B.Board.meaning l.board)) 0 l.number)
-    (Ok l.reached) l.out
+    Puts l.initial.output (front (node_lines g.L.Label.kind l.sizes (g.B.Board.meaning l.board)) 0 l.number) (Ok tt) l.output

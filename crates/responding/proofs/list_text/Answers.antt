@@ -1,60 +1,46 @@
-use Rattle.std.proofs.Common.{refl, ◌∙◌}
 use Rattle.books.specs.Held.{contents}
 use Rattle.responding.specs.Answers.{holding}
-use Rattle.responding.proofs.Answering.{longer, misread, unsettled, listed_whole, listed_cut}
+use Rattle.texts.specs.Lines.{outside_reading}
+use Rattle.responding.proofs.Answering.{tried_left, longer, misread, unsettled, listed_whole, listed_cut}
 use Rattle.responding.proofs.list_text.Goals as goal
 
-pub returns-then-input-gt-INPUT_ROOM : goal.returns-then-input-gt-INPUT_ROOM
-returns-then-input-gt-INPUT_ROOM g c =
+pub returns-then-input-gt-INPUT_ROOM-clause-tried : goal.returns-then-input-gt-INPUT_ROOM-clause-tried
+returns-then-input-gt-INPUT_ROOM-clause-tried g c =
     let before = holding (contents c.args.book.now) (g.B.Board.meaning c.args.board.now) c.args.out.now in
-    record {
-      kept = c.requires;
-      same_cells = refl;
-      tried = longer g.L.Label.kind g.L.Label.laws c.args.input.now before c.outside.result c.outside.ensures c.if-input-gt-INPUT_ROOM.true;
-    }
+    longer g.L.Label.kind g.L.Label.laws c.args.input.now before c.from.result c.from.ensures c.if-input-gt-INPUT_ROOM.true
 
-pub returns-in-Err : goal.returns-in-Err
-returns-in-Err g c =
+pub returns-in_err-read_text-clause-tried : goal.returns-in_err-read_text-clause-tried
+returns-in_err-read_text-clause-tried g c =
     let before = holding (contents c.args.book.now) (g.B.Board.meaning c.args.board.now) c.args.out.now in
-    record {
-      kept = c.requires;
-      same_cells = c.read_text.ensures.same_cells;
-      tried =
-          misread g.L.Label.kind g.L.Label.laws c.args.input.now before c.in-Err.misread (contents c.read_text.new.book) c.if-input-gt-INPUT_ROOM.false
-          c.in-Err.ensures.reads;
-    }
+    let after = holding (contents c.read_text.new.book) (g.B.Board.meaning c.args.board.now) c.args.out.now in
+    tried_left g.L.Label.kind g.L.Label.laws c.args.input.now before after c.in_err-read_text.field-0.0 c.from_residual.result c.from_residual.ensures.1
+    (misread g.L.Label.kind g.L.Label.laws c.args.input.now before c.in_err-read_text.field-0.0 (contents c.read_text.new.book)
+    c.if-input-gt-INPUT_ROOM.false c.in_err-read_text.ensures.reads)
 
-pub returns-in-Err-settle : goal.returns-in-Err-settle
-returns-in-Err-settle g c =
+pub returns-in_err-settle-clause-tried : goal.returns-in_err-settle-clause-tried
+returns-in_err-settle-clause-tried g c =
     let before = holding (contents c.args.book.now) (g.B.Board.meaning c.args.board.now) c.args.out.now in
-    record {
-      kept = c.settle.ensures.kept;
-      same_cells = c.settle.ensures.same_cells ∙ c.read_text.ensures.same_cells;
-      tried =
-          unsettled g.L.Label.kind g.L.Label.laws c.args.input.now before (contents c.read_text.new.book) c.if-input-gt-INPUT_ROOM.false c.in-Ok.ensures.reads c.in-Err-settle.refusal
-          c.outside-in-Err-settle.result (contents c.settle.new.self) (g.B.Board.meaning c.settle.new.board) c.outside-in-Err-settle.ensures
-          c.in-Err-settle.ensures.settles;
-    }
+    let after = holding (contents c.settle.new.self) (g.B.Board.meaning c.settle.new.board) c.args.out.now in
+    let refusal = c.in_err-settle.field-0.0 in
+    let left = c.from_residual-in_err-settle in
+    tried_left g.L.Label.kind g.L.Label.laws c.args.input.now before after (outside_reading refusal) left.result left.ensures.1
+    (unsettled g.L.Label.kind g.L.Label.laws c.args.input.now before (contents c.read_text.new.book) c.if-input-gt-INPUT_ROOM.false
+    c.in_ok-read_text.ensures.reads refusal (contents c.settle.new.self) (g.B.Board.meaning c.settle.new.board) c.in_err-settle.ensures.settles)
 
-pub returns-in-Err-list : goal.returns-in-Err-list
-returns-in-Err-list g c =
+pub returns-in_err-list-clause-tried : goal.returns-in_err-list-clause-tried
+returns-in_err-list-clause-tried g c =
     let before = holding (contents c.args.book.now) (g.B.Board.meaning c.args.board.now) c.args.out.now in
-    record {
-      kept = c.settle.ensures.kept;
-      same_cells = c.settle.ensures.same_cells ∙ c.read_text.ensures.same_cells;
-      tried =
-          listed_cut g.L.Label.kind g.L.Label.laws c.args.input.now before (contents c.read_text.new.book) c.if-input-gt-INPUT_ROOM.false c.in-Ok.ensures.reads c.in-Err-list.refusal
-          c.outside-in-Err-list.result (contents c.settle.new.self) (g.B.Board.meaning c.settle.new.board) c.list.new.out c.outside-in-Err-list.ensures
-          c.in-Ok-settle.ensures.settles c.in-Err-list.ensures;
-    }
+    let after = holding (contents c.settle.new.self) (g.B.Board.meaning c.settle.new.board) c.list.new.out in
+    let refusal = c.in_err-list.field-0.0 in
+    let left = c.from_residual-in_err-list in
+    tried_left g.L.Label.kind g.L.Label.laws c.args.input.now before after (outside_reading refusal) left.result left.ensures.1
+    (listed_cut g.L.Label.kind g.L.Label.laws c.args.input.now before (contents c.read_text.new.book) c.if-input-gt-INPUT_ROOM.false
+    c.in_ok-read_text.ensures.reads refusal (contents c.settle.new.self) (g.B.Board.meaning c.settle.new.board) c.list.new.out
+    c.in_ok-settle.ensures.settles c.in_err-list.ensures)
 
-pub returns-in-Ok-list : goal.returns-in-Ok-list
-returns-in-Ok-list g c =
+pub returns-clause-tried : goal.returns-clause-tried
+returns-clause-tried g c =
     let before = holding (contents c.args.book.now) (g.B.Board.meaning c.args.board.now) c.args.out.now in
-    record {
-      kept = c.settle.ensures.kept;
-      same_cells = c.settle.ensures.same_cells ∙ c.read_text.ensures.same_cells;
-      tried =
-          listed_whole g.L.Label.kind g.L.Label.laws c.args.input.now before (contents c.read_text.new.book) c.if-input-gt-INPUT_ROOM.false c.in-Ok.ensures.reads c.in-Ok-list.count
-          (contents c.settle.new.self) (g.B.Board.meaning c.settle.new.board) c.list.new.out c.in-Ok-settle.ensures.settles c.in-Ok-list.ensures;
-    }
+    listed_whole g.L.Label.kind g.L.Label.laws c.args.input.now before (contents c.read_text.new.book) c.if-input-gt-INPUT_ROOM.false
+    c.in_ok-read_text.ensures.reads c.in_ok-list.field-0 (contents c.settle.new.self) (g.B.Board.meaning c.settle.new.board)
+    c.list.new.out c.in_ok-settle.ensures.settles c.in_ok-list.ensures

@@ -1,29 +1,33 @@
+use Rattle.std.proofs.Common.{List, ℕ, refl}
 use Rattle.std.specs.List.{flat_map}
-use Rattle.output.proofs.Putting.{puts_then, puts_more, puts_all, puts_no_more}
-use Rattle.texts.specs.Lines.{sentences_header, sentence_line, numbered}
+use Rattle.terms.specs.declared.Sentence.{Sentence}
+use Rattle.labels.specs.Kind.{Kind}
+use Rattle.output.proofs.Putting.{puts_then, puts_cut, puts_left, puts_more, puts_more_cut, puts_all}
+use Rattle.texts.specs.Lines.{sentence_line, numbered}
 use Rattle.texts.proofs.write.put_sentences.Goals as goal
 
-pub loop-sentence-init : goal.loop-sentence-init
-loop-sentence-init g c =
-    let header = c.put_bytes-next in
-    puts_no_more c.args.out.now header.new.out sentences_header c.args.at header.result header.ensures
+-- the line of a sentence, by its label's number
+abbrev line : {L : Type 0} → Kind L → Sentence L → List ℕ
+line k s = sentence_line (numbered k s)
+
+pub returns-in_err-put_bytes : goal.returns-in_err-put_bytes
+returns-in_err-put_bytes g c =
+    puts_left c.from_residual.ensures.1
+    (puts_cut (flat_map (line g.L.Label.kind) c.args.sentences.now) refl c.in_err-put_bytes.ensures)
+
+pub returns-in_err-put_sentence : goal.returns-in_err-put_sentence
+returns-in_err-put_sentence g c =
+    puts_left c.from_residual-in_err-put_sentence.ensures.1
+    (puts_then refl c.in_ok-put_bytes.ensures
+    (puts_more_cut (line g.L.Label.kind) c.args.sentences.now c.loop-sentence-test.true c.sentence-item.is c.loop-sentence.invariant
+    c.in_err-put_sentence.ensures))
 
 pub loop-sentence-preserved : goal.loop-sentence-preserved
 loop-sentence-preserved g c =
-    let header = c.put_bytes-next in
-    let l = c.loop-sentence in
-    let line = c.put_sentence-next in
-    let s = c.sentence-item in
-    puts_more (λ s. sentence_line (numbered g.L.Label.kind s)) header.new.out l.out line.new.out c.args.sentences.now
-    l.sentence-index s.result header.result l.next line.result c.loop-sentence-test.true s.is l.invariant line.ensures
+    puts_more (line g.L.Label.kind) c.args.sentences.now c.loop-sentence-test.true c.sentence-item.is c.loop-sentence.invariant
+    c.in_ok-put_sentence.ensures
 
 pub returns : goal.returns
 returns g c =
-    let header = c.put_bytes-next in
-    let l = c.loop-sentence in
-    let k = g.L.Label.kind in
-    let ss = c.args.sentences.now in
-    puts_then c.args.out.now header.new.out l.out sentences_header (flat_map (λ s. sentence_line (numbered k s)) ss) c.args.at header.result
-    l.next header.ensures
-    (puts_all (λ s. sentence_line (numbered k s)) header.new.out l.out ss l.sentence-index header.result l.next
-    c.loop-sentence-test.false l.invariant)
+    puts_then refl c.in_ok-put_bytes.ensures
+    (puts_all (line g.L.Label.kind) c.args.sentences.now c.loop-sentence-test.false c.loop-sentence.invariant)

@@ -1,4 +1,4 @@
-use Rattle.output.proofs.+put_number.Given as goal
+use Rattle.output.proofs.Output+u8.+put_number.Given as goal
 
 abbrev pub decreases-put_number : goal.decreases-put_number
 decreases-put_number l = l.number
