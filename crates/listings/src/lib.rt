@@ -21,7 +21,6 @@ pub fn list<L: Label, B: Board<L>>(
     board: &B,
     out: &mut [u8],
 ) -> Result<usize, Refusal>
-    requires { B.Board.kept board.now }
     ensures { Lists L.Label.kind (contents book.now) (B.Board.meaning board.now) out.old result out.new }
 {
     if !book.is_settled() {
@@ -38,7 +37,6 @@ fn put_listing<L: Label, B: Board<L>>(
     sizes: Sizes,
     board: &B,
 ) -> Result<(), Refusal>
-    requires kept { B.Board.kept board.now }
     requires limits { outside_limits sizes ≡ false }
     ensures { Puts output.old (listing L.Label.kind sizes (B.Board.meaning board.now)) result output.new }
 {
@@ -56,7 +54,6 @@ fn put_node<L: Label, B: Board<L>>(
     node: Node,
     board: &B,
 ) -> Result<(), Refusal>
-    requires { B.Board.kept board.now }
     ensures { Puts output.old (node_lines L.Label.kind sizes (B.Board.meaning board.now) node.0) result output.new }
 {
     let top = sizes.member_place(node, Concept(0));

@@ -57,8 +57,6 @@ pub fn respond<L: Label, B: Board<L>>(
     board: &mut B,
     out: &mut [u8; OUTPUT_ROOM],
 ) -> usize
-    requires { B.Board.kept board.old }
-    ensures kept { B.Board.kept board.new }
     ensures within { result ≤ 16384 }
     ensures prints { Prints L.Label.kind input.now (memory cells.old (B.Board.meaning board.old) out.old) result (memory cells.new (B.Board.meaning board.new) out.new) }
 {
@@ -76,8 +74,6 @@ fn list_text<L: Label, B: Board<L>>(
     board: &mut B,
     out: &mut [u8],
 ) -> Result<usize, Misread>
-    requires { B.Board.kept board.old }
-    ensures kept { B.Board.kept board.new }
     ensures same_cells { SameCells book.old book.new }
     ensures tried { Tried L.Label.kind input.now (holding (contents book.old) (B.Board.meaning board.old) out.old) result (holding (contents book.new) (B.Board.meaning board.new) out.new) }
 {

@@ -114,7 +114,6 @@ fn answered<L: Label, B: Board<L>>(
     board: &mut B,
     lines: &[u8],
 ) -> Result<String, AllocError>
-    requires { B.Board.kept board.old }
     ensures { IfOk result (λ s. AnswersFrom L.Label.kind (memory cells.old (B.Board.meaning board.old)) lines.now (string_bytes s)) }
 {
     let Notebook { requests, replies } = take_lines(heap, lines)?;

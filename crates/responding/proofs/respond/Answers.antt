@@ -11,7 +11,6 @@ returns-in-Ok g c =
     let before = memory c.args.cells.now (g.B.Board.meaning c.args.board.now) c.args.out.now in
     let held = holding (contents book) (g.B.Board.meaning c.list_text.new.board) c.list_text.new.out in
     record {
-      kept = c.list_text.ensures.kept;
       within = omega (arith, c.in-Ok.ensures.tried.within);
       prints =
           prints_listing g.L.Label.kind c.args.input.now before _ held
@@ -25,7 +24,6 @@ returns-in-Err g c =
     let before = memory c.args.cells.now (g.B.Board.meaning c.args.board.now) c.args.out.now in
     let held = holding (contents book) (g.B.Board.meaning c.list_text.new.board) c.list_text.new.out in
     record {
-      kept = c.list_text.ensures.kept;
       within = omega (arith, c.put_refusal.ensures.within, c.list_text.auto.out);
       prints =
           prints_refusal g.L.Label.kind c.args.input.now before _ held
