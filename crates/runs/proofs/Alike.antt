@@ -1,6 +1,8 @@
 -- A list of calls determines its answers and its end, labels up to their number. Assumes nothing.
 use Rattle.std.proofs.Common.{◌≡◌, ℕ, ◌≤◌, Bool, true, false, not, ◌||◌, ltb, leb, List, [], ◌∷◌, ◌++◌, map, length, drop, replicate, is_ok, Some, None, Ok, Err, Option, Result, sym, refl, ap, ◌∙◌, subst, ap₂, arith, ltb-false}
 use Rattle.std.specs.List.{remove, flat_map}
+use Rattle.std.proofs.lemmas.List.{map-append}
+use Rattle.std.proofs.lemmas.List.Folds.{flat_map-map}
 use Rattle.labels.specs.Kind.{Kind, Lawful}
 use Rattle.terms.specs.declared.Sizes.{Sizes}
 use Rattle.terms.specs.declared.Sentence.{Sentence}
@@ -18,7 +20,7 @@ use Rattle.texts.specs.Lines.{numbered, text_of, sizes_header, sizes_line, sente
 use Rattle.texts.specs.Texts.{Reads, BadLine}
 use Rattle.texts.proofs.Once.{one_book}
 use Rattle.texts.proofs.Faults.{one_bad_line}
-use Rattle.texts.proofs.Relabelled.{alike_long, map_append, map_removed}
+use Rattle.texts.proofs.Relabelled.{alike_long, map_removed}
 use Rattle.listings.specs.Listing.{listing}
 use Rattle.listings.proofs.Same.{listing_same, settled_same, not_both, board_alike}
 use Rattle.runs.specs.declared.Request.{Request}
@@ -69,11 +71,8 @@ module _ {L : Type 0} (k : Kind L) where
   left_one None old old' left left' (Err e) s c d a b h i = absurd h
 
   lines_same : (ss ts : List (Sentence L)) → map (numbered k) ts ≡ map (numbered k) ss → flat_map (λ s. sentence_line (numbered k s)) ts ≡ flat_map (λ s. sentence_line (numbered k s)) ss
-  lines_same ss ts e = through ts ∙ ap (flat_map sentence_line) e ∙ sym (through ss)
-    where
-      through : (ss : List (Sentence L)) → flat_map (λ s. sentence_line (numbered k s)) ss ≡ flat_map sentence_line (map (numbered k) ss)
-      through [] = refl
-      through (s ∷ ss) = ap (λ l. sentence_line (numbered k s) ++ l) (through ss)
+  lines_same ss ts e =
+      sym (flat_map-map sentence_line (numbered k) ts) ∙ ap (flat_map sentence_line) e ∙ flat_map-map sentence_line (numbered k) ss
 
   text_same : (b c : Contents L) → SameBook k b c → text_of k c.sizes c.sentences ≡ text_of k b.sizes b.sentences
   text_same b c h =
@@ -207,7 +206,7 @@ module _ {L : Type 0} (k : Kind L) where
         subst (λ (f : Option Refusal). After f h.0 (h.1 ≡ b.book) (Accepted (λ u. h.1 ≡ unsettled b.book b.book.sizes (b.book.sentences ++ (s ∷ [])))))
         (λ j. fault (e.sizes j) (e.cells j) (long j)) h.3 in
         let more =
-        map_append k b.book.sentences (s ∷ []) ∙ ap (λ l. l ++ (numbered k s ∷ [])) e.sentences ∙ sym (map_append k a.book.sentences (s ∷ [])) in
+        map-append (numbered k) b.book.sentences (s ∷ []) ∙ ap (λ l. l ++ (numbered k s ∷ [])) e.sentences ∙ sym (map-append (numbered k) a.book.sentences (s ∷ [])) in
         let l =
         left_one (fault a.book.sizes a.book.cells (length a.book.sentences)) a.book b.book (unsettled a.book a.book.sizes (a.book.sentences ++ (s ∷ [])))
         (unsettled b.book b.book.sizes (b.book.sentences ++ (s ∷ []))) g.0 h.0 g.1 h.1 e

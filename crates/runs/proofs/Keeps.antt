@@ -1,9 +1,7 @@
 -- A call keeps a true account true. Assumes nothing.
-use Rattle.std.proofs.Common.{◌≡◌, ℕ, suc, Bool, true, false, not, ltb, leb, List, [], ◌∷◌, ◌++◌, length, take, drop, is_ok, Some, None, Ok, Err, Option, Result, sym, refl, subst, arith, length-append, leb-false}
+use Rattle.std.proofs.Common.{◌≡◌, ℕ, Bool, true, false, not, ltb, leb, List, [], ◌∷◌, ◌++◌, length, is_ok, Some, None, Ok, Err, Option, Result, sym, refl, subst, arith, leb-false}
 use borrow.Author.Tests.{not-false, clash}
 use Rattle.std.specs.List.{remove}
-use Rattle.std.proofs.lemmas.List.Edits.{length-remove}
-use Rattle.std.proofs.lemmas.Bool.{and_from}
 use Rattle.labels.specs.Kind.{Kind}
 use Rattle.terms.specs.declared.Sizes.{Sizes}
 use Rattle.terms.specs.declared.Sentence.{Sentence}
@@ -13,11 +11,12 @@ use Rattle.terms.specs.Refusals.{first_fault, After, Accepted}
 use Rattle.terms.specs.Places.{places, outside_limits}
 use Rattle.terms.specs.Sentences.{well_formed, holdable}
 use Rattle.terms.proofs.Faults.{no_fault}
-use Rattle.terms.proofs.Holding.{each_append, each_take, each_drop, holdable_parts, holdable_from}
+use Rattle.terms.proofs.Holding.{holdable_from}
 use Rattle.boards.specs.Meaning.{Meaning}
 use Rattle.settling.specs.Settled.{BroughtOrShort}
 use Rattle.books.specs.Contents.{Contents, unsettled, marked, one_concept}
 use Rattle.books.specs.Settling.{SettlesBook}
+use Rattle.books.proofs.Kept.{one_more, one_less}
 use Rattle.texts.specs.declared.Misread.{Misread}
 use Rattle.texts.specs.Texts.{Reads}
 use Rattle.runs.specs.declared.Request.{Request}
@@ -78,31 +77,18 @@ module _ {L : Type 0} (k : Kind L) where
       let z : Sizes = a.book.sizes in
       let ss : List (Sentence L) = a.book.sentences in
       let n : ℕ = a.book.cells in
-      let p = holdable_parts n z ss t.book in
       same_true h.4
       (left_true a h.1 z (ss ++ (s ∷ [])) (first_fault ((not (well_formed z s), MalformedSentence) ∷ ((leb n (length ss), BookFull) ∷ [])))
       (λ e.
       let one = no_fault (not (well_formed z s)) MalformedSentence ((leb n (length ss), BookFull) ∷ []) e in
-      let lt = leb-false n (length ss) (no_fault (leb n (length ss)) BookFull [] one.1).0 in
-      let formed = and_from (well_formed z s) true (not-false (well_formed z s) one.0) refl in
-      holdable_from n z (ss ++ (s ∷ []))
-      (record { limits = p.limits; formed = each_append (well_formed z) ss (s ∷ []) p.formed formed; few = omega (arith, lt, length-append ss (s ∷ [])) })) h.0 h.3 t)
+      let two = no_fault (leb n (length ss)) BookFull [] one.1 in
+      one_more n z ss t.book s (not-false (well_formed z s) one.0) (leb-false n (length ss) two.0)) h.0 h.3 t)
   stays_true a (request.Withdraw i) o b h t =
       let z : Sizes = a.book.sizes in
       let ss : List (Sentence L) = a.book.sentences in
-      let n : ℕ = a.book.cells in
-      let p = holdable_parts n z ss t.book in
       same_true h.4
       (left_true a h.1 z (remove ss i) (first_fault ((leb (length ss) i, OutOfRange) ∷ []))
-      (λ e.
-      let lt = leb-false (length ss) i (no_fault (leb (length ss) i) OutOfRange [] e).0 in
-      let few = p.few in
-      holdable_from n z (remove ss i)
-      (record {
-        limits = p.limits;
-        formed = each_append (well_formed z) (take i ss) (drop (suc i) ss) (each_take (well_formed z) i ss p.formed) (each_drop (well_formed z) (suc i) ss p.formed);
-        few = omega (arith, few, length-remove ss i lt);
-      })) h.0 h.3 t)
+      (λ e. one_less a.book.cells z ss t.book i (leb-false (length ss) i (no_fault (leb (length ss) i) OutOfRange [] e).0)) h.0 h.3 t)
   stays_true a (request.Read text) o b h t = same_true h.4 (read_true a h.1 text.now h.0 h.3 t)
   stays_true a (request.Write room) o b h t = same_true h.4 t
   stays_true a request.Settle o b h t = same_true h.5 (settles_true a h.1 h.2 h.0 h.4 t)

@@ -1,13 +1,13 @@
 -- One call of a list and many, from what the call gives. Assumes nothing.
-use Rattle.std.proofs.Common.{◌≡◌, ℕ, true, List, [], ◌∷◌, ◌++◌, map, length, take, is_err, Ok, Err, Result, Vec, sym, refl, ap, ◌∙◌, subst, arith}
+use Rattle.std.proofs.Common.{◌≡◌, ℕ, ◌+◌, ◌<◌, true, get_or, List, [], ◌∷◌, ◌++◌, map, length, take, is_err, Ok, Err, Result, Vec, sym, refl, ap, ◌∙◌, subst}
 use borrow.Author.Tests.{clash}
+use Rattle.std.proofs.lemmas.List.{map-append, take_more}
 use Rattle.labels.specs.Kind.{Kind, Lawful}
-use Rattle.terms.proofs.Holding.{holdable_from}
 use Rattle.boards.specs.Meaning.{Cleared}
-use Rattle.books.specs.Contents.{Contents, blank_book, one_concept}
+use Rattle.books.specs.Contents.{blank_book}
 use Rattle.runs.specs.declared.Request.{Request}
 use Rattle.runs.specs.declared.Outcome.{Outcome}
-use Rattle.runs.specs.Account.{Account, account, Answer, said}
+use Rattle.runs.specs.Account.{Account, Answer, said}
 use Rattle.runs.specs.Law.{Memory, Run, Law, Gives, Chain, TrueAndMeant, TrueAccount}
 use Rattle.runs.specs.Step.{Step}
 use Rattle.runs.proofs.Keeps.{stays_true}
@@ -37,28 +37,18 @@ module _ {L : Type 0} (k : Kind L) where
     pub chain : Chain k start qs os here
     pub is_true : TrueAccount k here
 
-  pub reached_start : (start : Account L) (n : ℕ) → start.book ≡ blank_book n → (os : List (Answer L)) → os ≡ [] → Reached start [] os start
-  reached_start start n blank os none =
-      record {
-        chain = subst (λ (os : List (Answer L)). Chain k start [] os start) (sym none) refl;
-        is_true =
-            subst (λ (b : Contents L). TrueAccount k (account b start.board)) (sym blank)
-            (record { book = holdable_from {L = L} n one_concept [] (record { limits = refl; formed = refl; few = omega arith }); board = λ e. absurd (clash e) });
-      }
-
-  map_snoc : (xs : List (Outcome L)) (o : Outcome L) → map said (xs ++ (o ∷ [])) ≡ map said xs ++ (said o ∷ [])
-  map_snoc [] o = refl
-  map_snoc (x ∷ xs) o = ap (λ l. said x ∷ l) (map_snoc xs o)
-
+  -- the next call of a list, made
   pub reached_again :
-      (start : Account L) (qs qs' : List (Request L)) (xs xs' : List (Outcome L)) (here : Account L) (q : Request L) (o : Outcome L) (next : Account L)
-      → qs' ≡ qs ++ (q ∷ []) → xs' ≡ xs ++ (o ∷ []) → Reached start qs (map said xs) here → Step k here q o next → Reached start qs' (map said xs') next
-  reached_again start qs qs' xs xs' here q o next eq ex r step =
+      (start : Account L) (calls : List (Request L)) (i : ℕ) (xs xs' : List (Outcome L)) (here : Account L) (q : Request L) (o : Outcome L) (next : Account L)
+      → i < length calls → q ≡ get_or calls i q → xs' ≡ xs ++ (o ∷ []) → Reached start (take i calls) (map said xs) here → Step k here q o next
+      → Reached start (take (i + 1) calls) (map said xs') next
+  reached_again start calls i xs xs' here q o next lt is ex r step =
       let t = r.is_true in
-      subst (λ (l : List (Request L)). Reached start l (map said xs') next) (sym eq)
-      (subst (λ (l : List (Answer L)). Reached start (qs ++ (q ∷ [])) l next) (sym (ap (λ l. map said l) ex ∙ map_snoc xs o))
+      let more : take (i + 1) calls ≡ take i calls ++ (q ∷ []) = take_more calls i q lt ∙ ap (λ q. take i calls ++ (q ∷ [])) (sym is) in
+      subst (λ (l : List (Request L)). Reached start l (map said xs') next) (sym more)
+      (subst (λ (l : List (Answer L)). Reached start (take i calls ++ (q ∷ [])) l next) (sym (ap (λ l. map said l) ex ∙ map-append said xs (o ∷ [])))
       (record {
-        chain = chain_more start qs (map said xs) here q (said o) next r.chain step.gives (t, step.claims t);
+        chain = chain_more start (take i calls) (map said xs) here q (said o) next r.chain step.gives (t, step.claims t);
         is_true = step.stays_true t;
       }))
 
@@ -90,7 +80,3 @@ module _ {L : Type 0} (k : Kind L) where
 
   pub reached_all : {start : Account L} {qs qs' : List (Request L)} {os : List (Answer L)} {here : Account L} → qs ≡ qs' → Reached start qs os here → Reached start qs' os here
   reached_all {start} {qs} {qs'} {os} {here} e r = subst (λ (l : List (Request L)). Reached start l os here) e r
-
--- a relation of two lists, at equal ones
-pub moved : {X : Type 0} (P : List X → List X → Type 0) {a a' b b' : List X} → a ≡ a' → b' ≡ b → P a b → P a' b'
-moved {X} P {a} {a'} {b} {b'} e f h = subst (λ (l : List X). P l b') e (subst (λ (m : List X). P a m) (sym f) h)

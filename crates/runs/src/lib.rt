@@ -46,13 +46,12 @@ pub fn perform<L: Label, B: Board<L>>(
     requests: &[Request<'_, L>],
     heap: Global,
 ) -> Result<Vec<Outcome<L>>, AllocError>
-    requires { B.Board.kept board.old }
-    ensures kept { B.Board.kept board.new }
     ensures law { Law L.Label.kind (memory cells.old (B.Board.meaning board.old)) requests.now result (memory cells.new (B.Board.meaning board.new)) }
 {
     board.clear();
     let mut book = Book::blank(cells);
     let mut log = Vec::new(heap);
+    // By hand: after a chain of iterators nothing is known of the book and the board that its closure changed.
     for request in requests {
         let outcome = perform_one(&mut book, board, request, heap)?;
         log.push(outcome)?;
@@ -67,8 +66,6 @@ fn perform_one<L: Label, B: Board<L>>(
     request: &Request<'_, L>,
     heap: Global,
 ) -> Result<Outcome<L>, AllocError>
-    requires { B.Board.kept board.old }
-    ensures kept { B.Board.kept board.new }
     ensures same_cells { SameCells book.old book.new }
     ensures step { Made L.Label.kind (account (contents book.old) (B.Board.meaning board.old)) request.now result (account (contents book.new) (B.Board.meaning board.new)) }
 {
@@ -77,6 +74,7 @@ fn perform_one<L: Label, B: Board<L>>(
         Request::Enter(sentence) => Ok(Outcome::Done(book.enter(*sentence))),
         Request::Withdraw(number) => Ok(Outcome::Done(book.withdraw(*number))),
         Request::Read(text) => Ok(Outcome::Read(read_text(book, text))),
+        // By hand here and at `List`: a closure that writes would need a clause of its own in each place.
         Request::Write(room) => {
             let mut out = vec![in heap; 0u8; *room]?;
             let answer = write_text(book, &mut out);
@@ -93,8 +91,6 @@ fn perform_one<L: Label, B: Board<L>>(
 }
 
 // Two runs of the same calls give the same answers and end alike, labels up to their number.
-pub fn calls_determine_their_answers<L: Label>() -> u8
+pub fn calls_determine_their_answers<L: Label>()
     ensures { Determined L.Label.kind }
-{
-    0
-}
+{}

@@ -7,7 +7,6 @@ use Rattle.runs.proofs.perform.Given as goal
 
 abbrev pub invariant-loop-request : goal.invariant-loop-request
 invariant-loop-request g l =
-    g.B.Board.kept l.board
-    × SameCells l.initial.book l.book
+    SameCells l.initial.book l.book
     × Reached g.L.Label.kind (account (contents l.initial.book) (g.B.Board.meaning l.initial.board))
     (take l.request-index l.requests) (logged l.log) (account (contents l.book) (g.B.Board.meaning l.board))
