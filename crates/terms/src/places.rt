@@ -33,7 +33,7 @@ impl Sizes {
     pub fn word_count(self) -> usize
         ensures { result ≡ word_count self }
     {
-        (self.places() + 63) / 64
+        self.places().div_ceil(64)
     }
 
     // The place of the membership of a node in a concept.
