@@ -5,9 +5,10 @@ ghost use Rattle.responding.specs.Room.{ArraysFit};
 
 use labels::{Grade, Label, Model};
 use responding::{OUTPUT_ROOM, answer};
-use std::env;
 use std::fs::File;
 use std::io::Write;
+use std::rt::Files;
+use std::{env, io};
 
 fn main(rt: HostRuntime) -> anyhow::Result<()> {
     let mut grades = false;
@@ -23,12 +24,11 @@ fn main(rt: HostRuntime) -> anyhow::Result<()> {
 }
 
 // Answers one text under its name.
-fn answer_one<L: Label>(rt: &HostRuntime, path: &str) -> anyhow::Result<()>
+fn answer_one<L: Label>(rt: &(impl Files + Print), path: &str) -> anyhow::Result<()>
     requires { ArraysFit L.row }
 {
     let mut output = [0; OUTPUT_ROOM];
     let count = answer::<L, _>(&mut File::open(rt, path)?, &mut output)?;
     println!(rt; "{path}:")?;
-    rt.write_all(&output[..count])?;
-    Ok(())
+    Ok(io::writer(rt).write_all(&output[..count])?)
 }
