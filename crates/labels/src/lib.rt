@@ -54,7 +54,7 @@ pub trait Label: Copy {
     fn number(self) -> u64
         ensures { result ≡ kind.number self };
 
-    // The label that has the number, or that none has.
+    // The label that has the number, or that none has. A method, since no law ties a `TryFrom` to the number.
     fn from_number(number: u64) -> Option<Self>
         ensures { LabelOfNumber kind number result };
 }
@@ -135,12 +135,11 @@ impl Label for Grade {
     }
 
     fn from_number(number: u64) -> Option<Grade> {
+        let number = u8::try_from(number).ok()?;
         if number > 15 {
             return None;
         }
-        Some(Grade {
-            number: number as u8,
-        })
+        Some(Grade { number })
     }
 }
 

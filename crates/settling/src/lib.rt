@@ -10,8 +10,7 @@ ghost use Rattle.settling.specs.Turn.{Ready, Gained, Applied, AppliedAt, Applied
 
 use boards::Board;
 use labels::Label;
-use terms::forms::Form;
-use terms::{Concept, Node, Refusal, Role, Sentence, Sizes};
+use terms::{Concept, Form, Node, Refusal, Role, Sentence, Sizes};
 
 // Brings the board to the least labels that satisfy the rules of the sentences.
 pub fn settle<L: Label, B: Board<L>>(

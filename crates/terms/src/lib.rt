@@ -11,6 +11,8 @@ pub mod forms;
 pub mod places;
 pub mod sentences;
 
+pub use forms::Form;
+
 // A concept number: the field's concept name. Concept 0 is top, which every element is in.
 #[derive(Clone, Copy, PartialEq, Eq)]
 pub struct Concept(pub u16);

@@ -2,8 +2,7 @@
 ghost use Rattle.std.specs.Prelude.{◌≡◌};
 ghost use Rattle.terms.specs.Sentences.{blank_sentence, relabelled, well_formed};
 
-use crate::forms::Form;
-use crate::{Sentence, Sizes};
+use crate::{Form, Sentence, Sizes};
 use labels::Label;
 
 impl<L: Label> Sentence<L> {
