@@ -103,17 +103,12 @@ pub fn calls_of(script: &[u8]) -> &[u8]
 fn kind_line(line: &[u8]) -> Option<LabelKind>
     ensures { ReadsKind line.now result }
 {
-    // By hand: in the last arm of a `match` on byte strings a proof knows no equation that rules out each line.
-    if line == b"kind models".as_slice() {
-        return Some(LabelKind::Models);
+    match line {
+        b"kind models" => Some(LabelKind::Models),
+        b"kind grades" => Some(LabelKind::Grades),
+        b"kind whole" => Some(LabelKind::Whole),
+        _ => None,
     }
-    if line == b"kind grades".as_slice() {
-        return Some(LabelKind::Grades);
-    }
-    if line == b"kind whole".as_slice() {
-        return Some(LabelKind::Whole);
-    }
-    None
 }
 
 // A word and the amount of memory after it.
