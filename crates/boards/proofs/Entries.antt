@@ -1,6 +1,6 @@
 -- What looking a place up among entries gives, also after one is changed or appended. Assumes nothing.
-use Rattle.std.proofs.Common.{◌≡◌, ℕ, zero, suc, ◌+◌, ◌<◌, ◌≤◌, true, Bool, cond, not, eqb, ltb, List, [], ◌∷◌, ◌++◌, length, get_or, take, set, Some, None, Option, sym, refl, ap, ◌∙◌, subst, ⊎_elim, arith}
-use Rattle.std.proofs.lemmas.List.{length-take-le, get_or_default, get_or-take, take_more, take-take}
+use Rattle.std.proofs.Common.{◌≡◌, ℕ, zero, suc, ◌<◌, ◌≤◌, true, Bool, cond, not, eqb, ltb, List, [], ◌∷◌, ◌++◌, length, get_or, take, set, Some, None, Option, sym, refl, ap, ◌∙◌, subst, ⊎_elim, arith}
+use Rattle.std.proofs.lemmas.List.{length-take-le, get_or-take}
 use Rattle.std.proofs.lemmas.Bool.{cases_eq, cases_lt, cond-true, cond-false, eq-eqb, eqb-true, eqb-false, lt-ltb, ne_eqb}
 use Rattle.std.proofs.lemmas.List.Quantifiers.{position-Some}
 use Rattle.std.proofs.lemmas.List.Sums.{fails_before_first}
@@ -39,26 +39,6 @@ module _ {L : Type 0} where
   pub absent_push : (es : List (Entry L)) (e : Entry L) (p : ℕ) → Absent p es → (e.place ≡ p → ⊥) → Absent p (es ++ (e ∷ []))
   absent_push [] e p absent other = (other, tt)
   absent_push (x ∷ es) e p absent other = (absent.0, absent_push es e p absent.1 other)
-
-  pub absent_from_push : (es : List (Entry L)) (e : Entry L) (p : ℕ) → Absent p (es ++ (e ∷ [])) → Absent p es × (e.place ≡ p → ⊥)
-  absent_from_push [] e p absent = (tt, absent.0)
-  absent_from_push (x ∷ es) e p absent = let rest = absent_from_push es e p absent.1 in ((absent.0, rest.0), rest.1)
-
-  pub absent_more :
-      (es : List (Entry L)) (i : ℕ) (blank : Entry L) (p : ℕ)
-      → i < length es → Absent p (take i es) → ((get_or es i blank).place ≡ p → ⊥) → Absent p (take (i + 1) es)
-  absent_more es i blank p inside absent other =
-      subst (Absent p) (sym (take_more es i blank inside)) (absent_push (take i es) (get_or es i blank) p absent other)
-
-  -- the first entry of a place among all is the first among those in use, where it is one of them
-  pub first_in_use :
-      (es : List (Entry L)) (used i : ℕ) (read : Entry L) (p : ℕ)
-      → used ≤ length es → i < used → Absent p (take i es) → (get_or es i read).place ≡ p → FirstEntry (take used es) p (Some i)
-  first_in_use es used i read p fits inside before at = (
-    omega (arith, length-take-le used es fits),
-    rw (take-take i used es (omega arith)) before,
-    λ blank. ap (λ e. e.place) (get_or-take used es i blank inside ∙ get_or_default es i blank read (omega arith)) ∙ at,
-  )
 
   -- an entry in use stands among all
   pub in_use : (es : List (Entry L)) (used i : ℕ) → used ≤ length es → i < length (take used es) → i < length es

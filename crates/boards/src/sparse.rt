@@ -28,7 +28,8 @@ impl<L: Label> Entry<L> {
     }
 }
 
-// Entries in memory that is lent, of which the first `used` are in use, for the places below `size`.
+// Entries in memory that is lent, of which the first `used` are in use, for the places below `size`. No `Vec`: a board takes no heap.
+// Places have 32 bits here and go by `as` to and from the machine's size, between which `std` has no `From`.
 #[derive(Drop)]
 pub struct Sparse<'a, L: Label> {
     entries: &'a mut [Entry<L>],

@@ -9,7 +9,6 @@ use Rattle.terms.specs.Places.{place, member}
 use Rattle.boards.specs.Meaning.{Meaning}
 use Rattle.output.specs.declared.Output.{Output}
 use Rattle.output.specs.Puts.{Puts}
-use Rattle.output.proofs.Putting.{puts_nothing}
 use Rattle.texts.specs.Lines.{values}
 use Rattle.listings.specs.Listing.{label_line, node_lines}
 use Rattle.listings.proofs.Counts.{front, puts_next, puts_rest, puts_front_cut}
@@ -43,12 +42,6 @@ module _ {L : Type 0} (k : Kind L) (m : Meaning L) (top x : ℕ) where
       let here : p ≡ top + B = omega arith in
       ap (λ b. values x (b ∷ (k.number l ∷ []))) concept ∙ ap (λ e. values x (B ∷ (k.number e ∷ []))) (is ∙ ap (λ q. m.label q) here)
       ∙ sym (ap (λ shown. label_line shown x B (k.number (m.label (top + B)))) (ap (λ q. some_view k (m.label q)) (sym here) ∙ some))
-
-  -- before the first place nothing is written
-  pub row_start : (o : Output ℕ) → Puts o (lines_before (top + 1)) (Ok tt) o
-  row_start o =
-      let none : 0 ≡ top + 1 - (top + 1) = omega arith in
-      subst (λ n. Puts o (front line 1 n) (Ok tt) o) none (puts_nothing o)
 
   -- the line of the next label that is not none
   pub row_next :

@@ -31,7 +31,7 @@ pub fn list<L: Label, B: Board<L>>(
     Ok(output.count())
 }
 
-// Puts the line that names the columns, and the lines of each node, rising.
+// Puts the line that names the columns, and the lines of each node, rising. A node's number is proved to fit, where `try_from` would give an error.
 fn put_listing<L: Label, B: Board<L>>(
     output: &mut Output<'_, u8>,
     sizes: Sizes,
@@ -47,7 +47,7 @@ fn put_listing<L: Label, B: Board<L>>(
     Ok(())
 }
 
-// Puts the lines of a node. It steps from label to label that is not none, past concept 0.
+// Puts the lines of a node. It steps from label to label that is not none, past concept 0: an iterator over these would serve this loop alone.
 fn put_node<L: Label, B: Board<L>>(
     output: &mut Output<'_, u8>,
     sizes: Sizes,

@@ -5,7 +5,7 @@ ghost use Rattle.std.specs.Prelude.{◌≤◌, length};
 
 use terms::Refusal;
 
-// Lent memory, of which the first `count` items are written.
+// Lent memory, of which the first `count` items are written. No `Vec`: writing takes no heap.
 #[derive(Drop)]
 pub struct Output<'a, T> {
     memory: &'a mut [T],
@@ -50,7 +50,7 @@ impl Output<'_, u8> {
     ghost use Rattle.std.specs.Prelude.{[], ◌∷◌, ◌++◌, decimal};
     ghost use Rattle.output.specs.Puts.{Puts};
 
-    // Puts a number in decimal.
+    // Puts a number in decimal. By hand: `write!` says nothing of what stands in the memory after an error. A digit fits a byte, so `as` loses nothing.
     pub fn put_number(&mut self, number: u64) -> Result<(), Refusal>
         ensures { Puts self.old (decimal number) result self.new }
     {

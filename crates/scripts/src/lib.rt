@@ -215,7 +215,9 @@ fn label_line(line: &[u8]) -> Option<Request<'_, u64>>
     Some(Request::Label(Node(node as u16), Concept(concept as u16)))
 }
 
-// The numbers of a line that is a word and as many numbers as there are limits, a space before each and each up to its limit.
+// The numbers of a line that is a word and as many numbers as there are limits, a space before each and each up to its limit. The readers above
+// narrow them by `as`, proved to lose nothing, where `try_from` would test them again; they are written by index, since of a slice that is
+// written through `iter_mut` beside the limits a proof knows no element.
 fn numbers<const N: usize>(line: &[u8], word: &[u8], limits: [u64; N]) -> Option<[u64; N]>
     ensures { ReadsNumbers word.now limits.entry line.now result }
 {

@@ -1,6 +1,5 @@
 -- The sentences of a round, one after another, and the facts that settling begins with. Assumes nothing.
-use Rattle.std.proofs.Common.{◌≡◌, ℕ, ◌+◌, ◌<◌, ◌≤◌, Bool, true, false, ◌&&◌, ◌||◌, List, [], ◌∷◌, length, get_or, take, drop, Ok, Err, Result, sym, ap, ◌∙◌, subst, ⊎_elim, arith}
-use Rattle.std.proofs.lemmas.List.{drop_more}
+use Rattle.std.proofs.Common.{◌≡◌, ℕ, ◌+◌, ◌<◌, ◌≤◌, Bool, ◌||◌, List, [], ◌∷◌, length, get_or, take, Ok, Err, Result, sym, subst, ⊎_elim, arith}
 use Rattle.std.proofs.ByRecursion.{All-more}
 use Rattle.std.proofs.lemmas.Bool.{cases_eq}
 use Rattle.labels.specs.Kind.{Kind, Lawful, Covers}
@@ -8,7 +7,6 @@ use Rattle.terms.specs.declared.Sizes.{Sizes}
 use Rattle.terms.specs.declared.Sentence.{Sentence}
 use Rattle.terms.specs.declared.Refusal.{Refusal}
 use Rattle.terms.specs.declared.Refusal.TheVariants.{BoardFull}
-use Rattle.terms.specs.Lists.{each}
 use Rattle.terms.specs.Places.{places, place, Fact}
 use Rattle.terms.proofs.Placing.{Within}
 use Rattle.theory.specs.Rules.{in_view, Derives}
@@ -17,17 +15,6 @@ use Rattle.settling.specs.Settled.{label_on}
 use Rattle.settling.specs.Turn.{Ready, Gained, Turn, Refused, Turned, Obeys, ObeysAll, Seeded}
 use Rattle.settling.proofs.Readiness.{ready_sound, at_in, one_in}
 use Rattle.settling.proofs.Turns.{grown_then, refused_then, refused_as, turn_then, turn_as, turn_gain, gained_here}
-
--- a test of each element from a place on: the element there fails, or the test goes on
-module _ {X : Type 0} (test : X → Bool) (xs : List X) (i : ℕ) (x : X) (l : i < length xs) (is : x ≡ get_or xs i x) where
-  each_from : each test (drop i xs) ≡ (test x && each test (drop (i + 1) xs))
-  each_from = ap (each test) (drop_more xs i x l) ∙ ap (λ y. test y && each test (drop (i + 1) xs)) (sym is)
-
-  pub each_fails : test x ≡ false → each test (drop i xs) ≡ false
-  each_fails e = each_from ∙ ap (λ t. t && each test (drop (i + 1) xs)) e
-
-  pub each_goes_on : test x ≡ true → each test (drop (i + 1) xs) ≡ each test (drop i xs)
-  each_goes_on e = sym (each_from ∙ ap (λ t. t && each test (drop (i + 1) xs)) e)
 
 -- the sentences before a place are applied, and the one at the place comes next
 module _ {L : Type 0} {k : Kind L} {z : Sizes} (ss : List (Sentence L)) (i : ℕ) (s : Sentence L) (l : i < length ss) (is : s ≡ get_or ss i s)

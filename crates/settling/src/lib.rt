@@ -63,7 +63,7 @@ fn fill<L: Label, B: Board<L>>(
     Ok(())
 }
 
-// Top: every node is in concept 0, in every view.
+// Top: every node is in concept 0, in every view. Here and below a node's number is proved to fit, where `try_from` would give an error.
 fn tops<L: Label, B: Board<L>>(sizes: Sizes, board: &mut B) -> Result<(), Refusal>
     requires ready { Ready sizes [] (B.Board.meaning board.old) }
     ensures seeds { Seeds L.Label.kind sizes (λ x. member x 0) (nodes sizes) (B.Board.meaning board.old) result (B.Board.meaning board.new) }
@@ -190,7 +190,7 @@ fn at_node<L: Label, B: Board<L>>(
     }
 }
 
-// Form 4: whatever has a role-link to some first is a third. It steps through the node's links along the role.
+// Form 4: whatever has a role-link to some first is a third. It steps through the node's links along the role; no iterator can, as the board changes.
 fn existential_on_left<L: Label, B: Board<L>>(
     sizes: Sizes,
     sentence: Sentence<L>,

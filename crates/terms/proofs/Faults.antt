@@ -16,6 +16,3 @@ module _ {X : Type 0} (fault : Option Refusal) (r : Result X Refusal) (unchanged
   -- no fault was found, and the call did what it should
   pub faultless : fault ≡ None → passed r → After fault r unchanged passed
   faultless e h = subst (λ (f : Option Refusal). After f r unchanged passed) (sym e) h
-
-  pub faultless_of : fault ≡ None → After fault r unchanged passed → passed r
-  faultless_of e h = subst (λ (f : Option Refusal). After f r unchanged passed) e h

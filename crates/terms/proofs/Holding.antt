@@ -1,7 +1,8 @@
 -- Tests of every element of a list, and the parts of a book that can be. Assumes nothing.
-use Rattle.std.proofs.Common.{◌≡◌, ℕ, zero, suc, ◌<◌, ◌≤◌, Bool, true, false, not, List, [], ◌∷◌, ◌++◌, length, get_or, take, drop, set, refl, arith, le-leb, leb-true}
+use Rattle.std.proofs.Common.{◌≡◌, ℕ, zero, suc, ◌≤◌, Bool, true, false, not, List, [], ◌∷◌, ◌++◌, length, take, drop, refl, ◌∙◌, le-leb, leb-true}
 use borrow.Author.Tests.{not-true}
 use Rattle.std.proofs.lemmas.Bool.{and_from, and_parts, not_from_false}
+use Rattle.std.proofs.lemmas.List.Folds.{list_all-append}
 use Rattle.terms.specs.declared.Sizes.{Sizes}
 use Rattle.terms.specs.declared.Sentence.{Sentence}
 use Rattle.terms.specs.Lists.{each}
@@ -10,9 +11,7 @@ use Rattle.terms.specs.Sentences.{well_formed, holdable}
 
 module _ {X : Type 0} (test : X → Bool) where
   pub each_append : (xs ys : List X) → each test xs ≡ true → each test ys ≡ true → each test (xs ++ ys) ≡ true
-  each_append [] ys h k = k
-  each_append (x ∷ xs) ys h k =
-      let p = and_parts (test x) (each test xs) h in and_from (test x) _ p.0 (each_append xs ys p.1 k)
+  each_append xs ys h k = list_all-append test xs ys ∙ and_from (each test xs) (each test ys) h k
 
   pub each_take : (n : ℕ) (xs : List X) → each test xs ≡ true → each test (take n xs) ≡ true
   each_take zero xs h = refl
@@ -24,18 +23,6 @@ module _ {X : Type 0} (test : X → Bool) where
   each_drop zero xs h = h
   each_drop (suc n) [] h = refl
   each_drop (suc n) (x ∷ xs) h = each_drop n xs (and_parts (test x) (each test xs) h).1
-
-  pub each_set : (xs : List X) (i : ℕ) (y : X) → each test xs ≡ true → test y ≡ true → each test (set xs i y) ≡ true
-  each_set [] i y h k = refl
-  each_set (x ∷ xs) zero y h k = and_from (test y) _ k (and_parts (test x) (each test xs) h).1
-  each_set (x ∷ xs) (suc i) y h k =
-      let p = and_parts (test x) (each test xs) h in and_from (test x) _ p.0 (each_set xs i y p.1 k)
-
-  -- the element at an index passes
-  pub each_at : (xs : List X) (i : ℕ) (d : X) → each test xs ≡ true → i < length xs → test (get_or xs i d) ≡ true
-  each_at [] i d h l = absurd (omega arith)
-  each_at (x ∷ xs) zero d h l = (and_parts (test x) (each test xs) h).0
-  each_at (x ∷ xs) (suc i) d h l = each_at xs i d (and_parts (test x) (each test xs) h).1 (omega arith)
 
 -- a book that can be, in its parts
 pub record Holdable {L : Type 0} (cells : ℕ) (z : Sizes) (ss : List (Sentence L)) : Type 0 where

@@ -25,7 +25,7 @@ fn field(text: &[u8], most: u64, end: u8) -> Option<(u64, &[u8])>
     Some((value, rest))
 }
 
-// The same for a number of 16 bits.
+// The same for a number of 16 bits, which is proved to fit, where `try_from` would test it again.
 fn short_field(text: &[u8], end: u8) -> Option<(u16, &[u8])>
     requires { end < 48 }
     ensures { Field 65535 end text.now result }
@@ -49,7 +49,7 @@ fn sizes_line(text: &[u8]) -> Option<(Sizes, &[u8])>
     Some((sizes, text))
 }
 
-// The sentence, by its label's number, whose line begins a text, and the text after that line.
+// The sentence, by its label's number, whose line begins a text, and the text after that line. The form is read up to 255, so that it fits.
 fn sentence_line(text: &[u8]) -> Option<(Sentence<u64>, &[u8])>
     ensures { Line sentence_fits sentence_line text.now result }
 {
