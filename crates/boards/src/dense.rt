@@ -51,22 +51,15 @@ impl<'a, L: Label> Board<L> for Dense<'a, L> {
         clear_cells(self.cells);
     }
 
-    // The search stops at the last cell. By place: a chain over the cells from `from` on would first have to test that they reach so far.
+    // The search stops at the last cell.
     fn next_some(&self, from: usize, to: usize) -> Option<usize> {
-        for place in from..to.min(self.cells.len()) {
-            if self.cells[place].number() != 0 {
-                return Some(place);
-            }
-        }
-        None
+        (from..to.min(self.cells.len())).find(|place| self.read(*place).number() != 0)
     }
 }
 
-// Makes every cell none. By hand: `fill` asks that a label's `clone` cannot fail, which a label kind need not show.
+// Makes every cell none.
 fn clear_cells<L: Label>(cells: &mut [L])
     ensures { (place : ℕ) → slice_index_or cells.new place L.Label.kind.none ≡ L.Label.kind.none }
 {
-    for cell in cells.iter_mut() {
-        *cell = L::none();
-    }
+    cells.fill_with(|| L::none());
 }

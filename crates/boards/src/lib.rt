@@ -40,11 +40,6 @@ pub trait Board<L: Label> {
     fn next_some(&self, from: usize, to: usize) -> Option<usize>
         ensures { NextSome L.Label.kind (meaning self.now) from to result }
     {
-        for place in from..to {
-            if self.read(place).number() != 0 {
-                return Some(place);
-            }
-        }
-        None
+        (from..to).find(|place| self.read(*place).number() != 0)
     }
 }

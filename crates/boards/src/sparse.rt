@@ -29,13 +29,13 @@ impl<L: Label> Entry<L> {
 }
 
 // Entries in memory that is lent, of which the first `used` are in use, for the places below `size`. No `Vec`: a board takes no heap.
-// Places have 32 bits here and go by `as` to and from the machine's size, between which `std` has no `From`.
+// Places have 32 bits here and widen to the machine's size by `as`, since `std` has no `From` for it; a place below the size fits back.
 #[derive(Drop)]
 pub struct Sparse<'a, L: Label> {
     entries: &'a mut [Entry<L>],
     used: usize,
     size: u32,
-    ghost sound: { EntriesKept L.Label.kind entries.now used size } by { entries_kept_prop L.Label.kind entries.now used size },
+    pub ghost sound: { EntriesKept L.Label.kind entries.now used size } by { entries_kept_prop L.Label.kind entries.now used size },
 }
 
 impl<'a, L: Label> Sparse<'a, L> {
@@ -54,12 +54,12 @@ impl<'a, L: Label> Sparse<'a, L> {
     }
 
     // The index of a place's entry, among those in use.
-    fn find(&self, place: u32) -> Option<usize>
+    fn find(&self, place: usize) -> Option<usize>
         ensures { result ≡ position (λ e. e.place == place) (used_entries self.now) }
     {
         self.entries[..self.used]
             .iter()
-            .position(|entry| entry.place == place)
+            .position(|entry| entry.place as usize == place)
     }
 
     // The smallest place from `from` up to `to` that an entry in use has.
@@ -108,10 +108,7 @@ impl<'a, L: Label> Board<L> for Sparse<'a, L> {
     }
 
     fn read(&self, place: usize) -> L {
-        if place >= self.size as usize {
-            return L::none();
-        }
-        match self.find(place as u32) {
+        match self.find(place) {
             Some(at) => self.entries[at].label,
             None => L::none(),
         }
@@ -121,7 +118,7 @@ impl<'a, L: Label> Board<L> for Sparse<'a, L> {
         if place >= self.size as usize {
             return Err(Refusal::OutOfRange);
         }
-        match self.find(place as u32) {
+        match self.find(place) {
             Some(at) => {
                 self.entries[at].label = self.entries[at].label.either(added);
                 Ok(())
