@@ -1,8 +1,10 @@
 // Which sentences keep the rules.
-ghost use Rattle.std.specs.Prelude.{◌≡◌};
+ghost use Rattle.std.specs.Prelude.{◌≡◌, not, [], ◌∷◌};
+ghost use Rattle.terms.specs.declared.Refusal.TheVariants.{MalformedSentence};
+ghost use Rattle.terms.specs.Refusals.{Checked, Accepted};
 ghost use Rattle.terms.specs.Sentences.{blank_sentence, relabelled, well_formed};
 
-use crate::{Form, Sentence, Sizes};
+use crate::{Form, Refusal, Sentence, Sizes};
 use labels::Label;
 
 impl<L: Label> Sentence<L> {
@@ -64,5 +66,15 @@ impl<L: Copy> Sentence<L> {
             }
             Err(_) => false,
         }
+    }
+
+    // Refuses a sentence that is not for these sizes.
+    pub fn check(self, sizes: Sizes) -> Result<(), Refusal>
+        ensures { Checked ((not (well_formed sizes self), MalformedSentence) ∷ []) result (Unit {0}) (Accepted (λ u. Unit {0})) }
+    {
+        if !self.is_well_formed(sizes) {
+            return Err(Refusal::MalformedSentence);
+        }
+        Ok(())
     }
 }
