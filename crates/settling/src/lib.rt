@@ -20,9 +20,7 @@ pub fn settle<L: Label, B: Board<L>>(
 ) -> Result<(), Refusal>
     ensures settles { Settles L.Label.kind sizes sentences.now (B.Board.meaning board.old) result (B.Board.meaning board.new) }
 {
-    if sizes.is_outside_limits() {
-        return Err(Refusal::SizesOutsideLimits);
-    }
+    sizes.check()?;
     if !all_well_formed(sizes, sentences) {
         return Err(Refusal::MalformedSentence);
     }
@@ -37,7 +35,7 @@ pub fn settle<L: Label, B: Board<L>>(
     filled
 }
 
-// Whether every sentence is one for these sizes.
+// Whether every sentence is one for these sizes. By hand: `try_for_each` over `check` would do for it and the refusal, but got no proof.
 fn all_well_formed<L: Label>(sizes: Sizes, sentences: &[Sentence<L>]) -> bool
     ensures { result ≡ each (well_formed sizes) sentences.now }
 {
