@@ -61,14 +61,14 @@ fn fill<L: Label, B: Board<L>>(
     Ok(())
 }
 
-// Top: every node is in concept 0, in every view. Here and below a node's number is proved to fit, where `try_from` would give an error.
+// Top: every node is in concept 0, in every view.
 fn tops<L: Label, B: Board<L>>(sizes: Sizes, board: &mut B) -> Result<(), Refusal>
     requires ready { Ready sizes [] (B.Board.meaning board.old) }
     ensures seeds { Seeds L.Label.kind sizes (λ x. member x 0) (nodes sizes) (B.Board.meaning board.old) result (B.Board.meaning board.new) }
 {
-    for number in 0..sizes.nodes() {
+    for number in 0..sizes.concepts + sizes.individuals {
         gain(
-            sizes.member_place(Node(number as u16), Concept(0)),
+            sizes.member_place(Node(number), Concept(0)),
             L::all(),
             board,
         )?;
@@ -145,8 +145,8 @@ fn at_nodes<L: Label, B: Board<L>>(
     ensures applied { Applied L.Label.kind sizes sentence (B.Board.meaning board.old) result (B.Board.meaning board.new) }
 {
     let mut grew = false;
-    for number in 0..sizes.nodes() {
-        grew |= at_node(sizes, sentence, Node(number as u16), board)?;
+    for number in 0..sizes.concepts + sizes.individuals {
+        grew |= at_node(sizes, sentence, Node(number), board)?;
     }
     Ok(grew)
 }
@@ -205,6 +205,7 @@ fn existential_on_left<L: Label, B: Board<L>>(
     let mut grew = false;
     let mut from = start;
     while let Some(place) = board.next_some(from, end) {
+        // By hand: the number is proved to fit, where `try_from` would give an error.
         let other = Node((place - start) as u16);
         grew |= through_link(sizes, sentence, node, other, board)?;
         from = place + 1;
