@@ -44,8 +44,8 @@ fn all_well_formed<L: Label>(sizes: Sizes, sentences: &[Sentence<L>]) -> bool
         .all(|sentence| sentence.is_well_formed(sizes))
 }
 
-// From a cleared board: tops, selves, then rounds until one brings nothing. Sizes, sentence and board go on as arguments: of a struct round
-// them each part would have to say besides that its sizes and its board's place are as they were.
+// From a cleared board: tops, selves, then rounds until one brings nothing. Sizes, sentences and board are arguments of each part, and no struct.
+// Of a struct each part would have to say as well that the sizes and the borrow of the board are as they were.
 fn fill<L: Label, B: Board<L>>(
     sizes: Sizes,
     sentences: &[Sentence<L>],
@@ -76,7 +76,7 @@ fn tops<L: Label, B: Board<L>>(sizes: Sizes, board: &mut B) -> Result<(), Refusa
     Ok(())
 }
 
-// Self: every concept is in itself, in every view. Apart from `tops`: one loop for both would take a closure, with a clause on it longer than this.
+// Self: every concept is in itself, in every view. By hand beside `tops`: one loop for both would take a closure, and its clause would be longer than this function.
 fn selves<L: Label, B: Board<L>>(sizes: Sizes, board: &mut B) -> Result<(), Refusal>
     requires ready { Ready sizes [] (B.Board.meaning board.old) }
     ensures seeds { Seeds L.Label.kind sizes (λ x. member x x) sizes.concepts (B.Board.meaning board.old) result (B.Board.meaning board.new) }
@@ -130,6 +130,7 @@ fn apply<L: Label, B: Board<L>>(
             let link = sizes.link_place(unit, Role(sentence.role), other);
             gain(link, sentence.label, board)
         }
+        // Each other form speaks of every node. No `Err` comes here: a sentence for these sizes has a form.
         _ => at_nodes(sizes, sentence, board),
     }
 }
@@ -184,11 +185,12 @@ fn at_node<L: Label, B: Board<L>>(
         }
         // Whatever has a role-link to some first is a third.
         Ok(Form::ExistentialOnLeft) => existential_on_left(sizes, sentence, node, board),
+        // The two assertions ask nothing of a node. No `Err` comes here: a sentence for these sizes has a form.
         _ => Ok(false),
     }
 }
 
-// Form 4: whatever has a role-link to some first is a third. It steps through the node's links along the role; no iterator can, as the board changes.
+// Existential on the left: whatever has a role-link to some first is a third. It steps through the node's links along the role; no iterator can, as the board changes.
 fn existential_on_left<L: Label, B: Board<L>>(
     sizes: Sizes,
     sentence: Sentence<L>,
@@ -213,7 +215,7 @@ fn existential_on_left<L: Label, B: Board<L>>(
     Ok(grew)
 }
 
-// Form 4 through one link: a node that has a role-link to some first is a third.
+// Existential on the left, through one link: a node that has a role-link to some first is a third.
 fn through_link<L: Label, B: Board<L>>(
     sizes: Sizes,
     sentence: Sentence<L>,
