@@ -35,7 +35,7 @@ pub fn settle<L: Label, B: Board<L>>(
     filled
 }
 
-// Whether every sentence is one for these sizes. By hand: `try_for_each` over `check` would do for it and the refusal, but got no proof.
+// Whether every sentence is one for these sizes. By hand: `try_for_each` over `check` would refuse at once, but its proof would be longer than what it saves.
 fn all_well_formed<L: Label>(sizes: Sizes, sentences: &[Sentence<L>]) -> bool
     ensures { result ≡ each (well_formed sizes) sentences.now }
 {
