@@ -1,4 +1,4 @@
-use Rattle.std.proofs.Common.{not, length, take, arith, rules}
+use Rattle.std.proofs.Common.{length, take, arith, rules}
 use Rattle.std.proofs.lemmas.Bool.{not-false}
 use Rattle.std.proofs.lemmas.List.{length-set, length-take-le, take_more_set}
 use Rattle.terms.specs.declared.Refusal.TheVariants.{MalformedSentence}
