@@ -61,9 +61,7 @@ impl<'a, L: Label> Book<'a, L> {
         ensures same_cells { SameCells self.old self.new }
         ensures sized { Sized (contents self.old) sizes result (contents self.new) }
     {
-        if sizes.is_outside_limits() {
-            return Err(Refusal::SizesOutsideLimits);
-        }
+        sizes.check()?;
         self.clear();
         self.sizes = sizes;
         Ok(())
@@ -74,9 +72,7 @@ impl<'a, L: Label> Book<'a, L> {
         ensures same_cells { SameCells self.old self.new }
         ensures entered { Entered (contents self.old) sentence result (contents self.new) }
     {
-        if !sentence.is_well_formed(self.sizes) {
-            return Err(Refusal::MalformedSentence);
-        }
+        sentence.check(self.sizes)?;
         if self.count >= self.cells.len() {
             return Err(Refusal::BookFull);
         }

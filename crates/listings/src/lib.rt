@@ -31,7 +31,7 @@ pub fn list<L: Label, B: Board<L>>(
     Ok(output.count())
 }
 
-// Puts the line that names the columns, and the lines of each node, rising. A node's number is proved to fit, where `try_from` would give an error.
+// Puts the line that names the columns, and the lines of each node, rising.
 fn put_listing<L: Label, B: Board<L>>(
     output: &mut Output<'_, u8>,
     sizes: Sizes,
@@ -41,8 +41,8 @@ fn put_listing<L: Label, B: Board<L>>(
     ensures { Puts output.old (listing L.Label.kind sizes (B.Board.meaning board.now)) result output.new }
 {
     output.put_bytes(b"node concept label\n")?;
-    for number in 0..sizes.nodes() {
-        put_node(output, sizes, Node(number as u16), board)?;
+    for number in 0..sizes.concepts + sizes.individuals {
+        put_node(output, sizes, Node(number), board)?;
     }
     Ok(())
 }
@@ -60,6 +60,7 @@ fn put_node<L: Label, B: Board<L>>(
     let end = top + usize::from(sizes.concepts);
     let mut from = top + 1;
     while let Some(place) = board.next_some(from, end) {
+        // By hand: the number is proved to fit, where `try_from` would give an error.
         let concept = Concept((place - top) as u16);
         put_label(output, node, concept, board.read(place))?;
         from = place + 1;

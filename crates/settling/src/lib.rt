@@ -20,9 +20,7 @@ pub fn settle<L: Label, B: Board<L>>(
 ) -> Result<(), Refusal>
     ensures settles { Settles L.Label.kind sizes sentences.now (B.Board.meaning board.old) result (B.Board.meaning board.new) }
 {
-    if sizes.is_outside_limits() {
-        return Err(Refusal::SizesOutsideLimits);
-    }
+    sizes.check()?;
     if !all_well_formed(sizes, sentences) {
         return Err(Refusal::MalformedSentence);
     }
@@ -37,7 +35,7 @@ pub fn settle<L: Label, B: Board<L>>(
     filled
 }
 
-// Whether every sentence is one for these sizes.
+// Whether every sentence is one for these sizes. By hand: `try_for_each` over `check` would refuse at once, but its proof would be longer than what it saves.
 fn all_well_formed<L: Label>(sizes: Sizes, sentences: &[Sentence<L>]) -> bool
     ensures { result ≡ each (well_formed sizes) sentences.now }
 {
@@ -46,8 +44,8 @@ fn all_well_formed<L: Label>(sizes: Sizes, sentences: &[Sentence<L>]) -> bool
         .all(|sentence| sentence.is_well_formed(sizes))
 }
 
-// From a cleared board: tops, selves, then rounds until one brings nothing. Sizes, sentence and board go on as arguments: of a struct round
-// them each part would have to say besides that its sizes and its board's place are as they were.
+// From a cleared board: tops, selves, then rounds until one brings nothing. Sizes, sentences and board are arguments of each part, and no struct.
+// Of a struct each part would have to say as well that the sizes and the borrow of the board are as they were.
 fn fill<L: Label, B: Board<L>>(
     sizes: Sizes,
     sentences: &[Sentence<L>],
@@ -63,14 +61,14 @@ fn fill<L: Label, B: Board<L>>(
     Ok(())
 }
 
-// Top: every node is in concept 0, in every view. Here and below a node's number is proved to fit, where `try_from` would give an error.
+// Top: every node is in concept 0, in every view.
 fn tops<L: Label, B: Board<L>>(sizes: Sizes, board: &mut B) -> Result<(), Refusal>
     requires ready { Ready sizes [] (B.Board.meaning board.old) }
     ensures seeds { Seeds L.Label.kind sizes (λ x. member x 0) (nodes sizes) (B.Board.meaning board.old) result (B.Board.meaning board.new) }
 {
-    for number in 0..sizes.nodes() {
+    for number in 0..sizes.concepts + sizes.individuals {
         gain(
-            sizes.member_place(Node(number as u16), Concept(0)),
+            sizes.member_place(Node(number), Concept(0)),
             L::all(),
             board,
         )?;
@@ -78,7 +76,7 @@ fn tops<L: Label, B: Board<L>>(sizes: Sizes, board: &mut B) -> Result<(), Refusa
     Ok(())
 }
 
-// Self: every concept is in itself, in every view. Apart from `tops`: one loop for both would take a closure, with a clause on it longer than this.
+// Self: every concept is in itself, in every view. By hand beside `tops`: one loop for both would take a closure, and its clause would be longer than this function.
 fn selves<L: Label, B: Board<L>>(sizes: Sizes, board: &mut B) -> Result<(), Refusal>
     requires ready { Ready sizes [] (B.Board.meaning board.old) }
     ensures seeds { Seeds L.Label.kind sizes (λ x. member x x) sizes.concepts (B.Board.meaning board.old) result (B.Board.meaning board.new) }
@@ -132,6 +130,7 @@ fn apply<L: Label, B: Board<L>>(
             let link = sizes.link_place(unit, Role(sentence.role), other);
             gain(link, sentence.label, board)
         }
+        // Each other form speaks of every node. No `Err` comes here: a sentence for these sizes has a form.
         _ => at_nodes(sizes, sentence, board),
     }
 }
@@ -147,8 +146,8 @@ fn at_nodes<L: Label, B: Board<L>>(
     ensures applied { Applied L.Label.kind sizes sentence (B.Board.meaning board.old) result (B.Board.meaning board.new) }
 {
     let mut grew = false;
-    for number in 0..sizes.nodes() {
-        grew |= at_node(sizes, sentence, Node(number as u16), board)?;
+    for number in 0..sizes.concepts + sizes.individuals {
+        grew |= at_node(sizes, sentence, Node(number), board)?;
     }
     Ok(grew)
 }
@@ -186,11 +185,12 @@ fn at_node<L: Label, B: Board<L>>(
         }
         // Whatever has a role-link to some first is a third.
         Ok(Form::ExistentialOnLeft) => existential_on_left(sizes, sentence, node, board),
+        // The two assertions ask nothing of a node. No `Err` comes here: a sentence for these sizes has a form.
         _ => Ok(false),
     }
 }
 
-// Form 4: whatever has a role-link to some first is a third. It steps through the node's links along the role; no iterator can, as the board changes.
+// Existential on the left: whatever has a role-link to some first is a third. It steps through the node's links along the role; no iterator can, as the board changes.
 fn existential_on_left<L: Label, B: Board<L>>(
     sizes: Sizes,
     sentence: Sentence<L>,
@@ -207,6 +207,7 @@ fn existential_on_left<L: Label, B: Board<L>>(
     let mut grew = false;
     let mut from = start;
     while let Some(place) = board.next_some(from, end) {
+        // By hand: the number is proved to fit, where `try_from` would give an error.
         let other = Node((place - start) as u16);
         grew |= through_link(sizes, sentence, node, other, board)?;
         from = place + 1;
@@ -214,7 +215,7 @@ fn existential_on_left<L: Label, B: Board<L>>(
     Ok(grew)
 }
 
-// Form 4 through one link: a node that has a role-link to some first is a third.
+// Existential on the left, through one link: a node that has a role-link to some first is a third.
 fn through_link<L: Label, B: Board<L>>(
     sizes: Sizes,
     sentence: Sentence<L>,

@@ -1,4 +1,5 @@
 // What books, boards, sheets and descriptions are spoken of in: names, sizes, sentences, records and refusals.
+// The field is description logic. A unit is what it calls an individual.
 #![tactic(auto)]
 
 ghost use Rattle.std.specs.Prelude.{◌≡◌};
@@ -53,7 +54,7 @@ pub struct Sentence<L> {
 #[derive(Clone, Copy, PartialEq, Eq)]
 pub struct Record {
     pub depth: u8,
-    // A number, since any may be handed over: one that is neither 0 nor 1 is refused.
+    // A number, since any may be handed over: a list of records with a kind that is neither 0 nor 1 is no description.
     pub kind: u8,
     pub number: u16,
 }
@@ -75,7 +76,7 @@ pub enum Refusal {
 }
 
 impl Refusal {
-    // The number by which a refusal is told.
+    // The number by which a refusal is told. A method and no `From`: it is promised by this name.
     pub fn number(self) -> u8
         ensures { result ≡ number_of self }
     {

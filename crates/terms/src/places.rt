@@ -14,6 +14,16 @@ impl Sizes {
         self.concepts == 0 || self.concepts > 512 || self.roles > 32 || self.individuals > 512
     }
 
+    // Refuses sizes outside the limits.
+    pub fn check(self) -> Result<(), Refusal>
+        ensures { Checked ((outside_limits self, SizesOutsideLimits) ∷ []) result (Unit {0}) (Accepted (λ u. Unit {0})) }
+    {
+        if self.is_outside_limits() {
+            return Err(Refusal::SizesOutsideLimits);
+        }
+        Ok(())
+    }
+
     // How many nodes there are.
     pub fn nodes(self) -> usize
         ensures { result ≡ nodes self }
@@ -56,22 +66,18 @@ impl Sizes {
     pub fn concept_node(self, concept: Concept) -> Result<Node, Refusal>
         ensures { Checked ((outside_limits self, SizesOutsideLimits) ∷ ((nat_le self.concepts concept.0, OutOfRange) ∷ [])) result (Unit {0}) (Accepted (λ x. x.0 ≡ concept.0)) }
     {
-        if self.is_outside_limits() {
-            return Err(Refusal::SizesOutsideLimits);
-        }
+        self.check()?;
         if concept.0 >= self.concepts {
             return Err(Refusal::OutOfRange);
         }
         Ok(Node(concept.0))
     }
 
-    // The node of a unit.
+    // The node of a unit. By hand beside `concept_node`: one function for both would take the number, its bound and what is added to it.
     pub fn individual_node(self, individual: Individual) -> Result<Node, Refusal>
         ensures { Checked ((outside_limits self, SizesOutsideLimits) ∷ ((nat_le self.individuals individual.0, OutOfRange) ∷ [])) result (Unit {0}) (Accepted (λ x. x.0 ≡ self.concepts + individual.0)) }
     {
-        if self.is_outside_limits() {
-            return Err(Refusal::SizesOutsideLimits);
-        }
+        self.check()?;
         if individual.0 >= self.individuals {
             return Err(Refusal::OutOfRange);
         }

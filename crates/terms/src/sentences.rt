@@ -1,8 +1,10 @@
 // Which sentences keep the rules.
-ghost use Rattle.std.specs.Prelude.{◌≡◌};
+ghost use Rattle.std.specs.Prelude.{◌≡◌, not, [], ◌∷◌};
+ghost use Rattle.terms.specs.declared.Refusal.TheVariants.{MalformedSentence};
+ghost use Rattle.terms.specs.Refusals.{Checked, Accepted};
 ghost use Rattle.terms.specs.Sentences.{blank_sentence, relabelled, well_formed};
 
-use crate::{Form, Sentence, Sizes};
+use crate::{Form, Refusal, Sentence, Sizes};
 use labels::Label;
 
 impl<L: Label> Sentence<L> {
@@ -40,23 +42,39 @@ impl<L: Copy> Sentence<L> {
     pub fn is_well_formed(self, sizes: Sizes) -> bool
         ensures { result ≡ well_formed sizes self }
     {
-        let concept = self.first < sizes.concepts;
-        let unit = self.first < sizes.individuals;
-        let second = self.second < sizes.concepts;
+        let first_is_concept = self.first < sizes.concepts;
+        let first_is_unit = self.first < sizes.individuals;
+        let second_is_concept = self.second < sizes.concepts;
         let no_second = self.second == 0;
-        let role = self.role < sizes.roles;
+        let role_is_known = self.role < sizes.roles;
         let no_role = self.role == 0;
-        let third = self.third < sizes.concepts;
-        let third_unit = self.third < sizes.individuals;
+        let third_is_concept = self.third < sizes.concepts;
+        let third_is_unit = self.third < sizes.individuals;
         match Form::try_from(self.form) {
-            Ok(Form::Inclusion) => concept & no_second & no_role & third,
-            Ok(Form::Conjunction) => concept & second & no_role & third,
-            Ok(Form::ExistentialOnRight | Form::ExistentialOnLeft) => {
-                concept & no_second & role & third
+            Ok(Form::Inclusion) => first_is_concept && no_second && no_role && third_is_concept,
+            Ok(Form::Conjunction) => {
+                first_is_concept && second_is_concept && no_role && third_is_concept
             }
-            Ok(Form::ConceptAssertion) => unit & no_second & no_role & third,
-            Ok(Form::RoleAssertion) => unit & no_second & role & third_unit,
+            Ok(Form::ExistentialOnRight | Form::ExistentialOnLeft) => {
+                first_is_concept && no_second && role_is_known && third_is_concept
+            }
+            Ok(Form::ConceptAssertion) => {
+                first_is_unit && no_second && no_role && third_is_concept
+            }
+            Ok(Form::RoleAssertion) => {
+                first_is_unit && no_second && role_is_known && third_is_unit
+            }
             Err(_) => false,
         }
+    }
+
+    // Refuses a sentence that is not for these sizes.
+    pub fn check(self, sizes: Sizes) -> Result<(), Refusal>
+        ensures { Checked ((not (well_formed sizes self), MalformedSentence) ∷ []) result (Unit {0}) (Accepted (λ u. Unit {0})) }
+    {
+        if !self.is_well_formed(sizes) {
+            return Err(Refusal::MalformedSentence);
+        }
+        Ok(())
     }
 }

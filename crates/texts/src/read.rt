@@ -101,9 +101,7 @@ fn enter<L: Label>(book: &mut Book<'_, L>, sentence: Sentence<u64>) -> Result<()
     ensures same_cells { SameCells book.old book.new }
     ensures enters { Enters L.Label.kind (contents book.old) sentence result (contents book.new) }
 {
-    if !sentence.is_well_formed(book.sizes()) {
-        return Err(Refusal::MalformedSentence);
-    }
+    sentence.check(book.sizes())?;
     let label = L::from_number(sentence.label).ok_or(Refusal::NoSuchLabel)?;
     book.enter(sentence.with_label(label))
 }

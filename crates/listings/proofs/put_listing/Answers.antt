@@ -14,10 +14,9 @@ pub returns-in_err-put_node : goal.returns-in_err-put_node
 returns-in_err-put_node g c =
     let lines = node_lines g.L.Label.kind c.args.sizes (g.B.Board.meaning c.args.board.now) in
     let l = c.loop-number in
-    let end = c.nodes-number-end.ensures in
     puts_left c.from_residual-in_err-put_node.ensures.1
     (puts_then refl c.in_ok-put_bytes.ensures
-    (puts_front_cut lines 0 (l.number + 1) (nodes c.args.sizes) (omega (arith, c.loop-number-test.true, end))
+    (puts_front_cut lines 0 (l.number + 1) (nodes c.args.sizes) (omega (arith, c.loop-number-test.true))
     (puts_counted lines l.number l.invariant c.in_err-put_node.ensures)))
 
 pub loop-number-preserved : goal.loop-number-preserved
@@ -29,7 +28,6 @@ pub returns : goal.returns
 returns g c =
     let lines = node_lines g.L.Label.kind c.args.sizes (g.B.Board.meaning c.args.board.now) in
     let l = c.loop-number in
-    let end = c.nodes-number-end.ensures in
     puts_then refl c.in_ok-put_bytes.ensures
-    (puts_rest lines 0 l.number (nodes c.args.sizes) (omega (arith, l.auto.number-end, end))
-    (λ j low high. absurd (omega (arith, c.loop-number-test.false, end))) l.invariant)
+    (puts_rest lines 0 l.number (nodes c.args.sizes) (omega (arith, l.auto.number-end))
+    (λ j low high. absurd (omega (arith, c.loop-number-test.false))) l.invariant)

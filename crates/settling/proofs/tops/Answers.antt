@@ -11,7 +11,7 @@ returns-in_err-gain g c =
     let b = g.B.Board in
     let l = c.loop-number in
     let done = c.in_err-gain.ensures in
-    let below : l.number < nodes c.args.sizes = omega (arith, c.loop-number-test.true, c.nodes-number-end.ensures) in
+    let below : l.number < nodes c.args.sizes = omega (arith, c.loop-number-test.true) in
     let left = left_by c.from_residual.result c.in_err-gain.field-0.0 c.from_residual.ensures.1 in
     rw left
     (record {
@@ -25,7 +25,7 @@ loop-number-preserved g c =
     let b = g.B.Board in
     let l = c.loop-number in
     let done = c.in_ok-gain.ensures in
-    let below : l.number < nodes c.args.sizes = omega (arith, c.loop-number-test.true, c.nodes-number-end.ensures) in
+    let below : l.number < nodes c.args.sizes = omega (arith, c.loop-number-test.true) in
     seed_more g.L.Label.laws (λ x. member x 0) l.number (below, (ready_sound c.requires.ready).has_top) (λ ss. top below)
     (b.meaning l.board) (b.meaning c.gain.new.board) c.requires.ready l.invariant
     c.member_place.result c.all.result c.member_place.ensures c.all.ensures c.in_ok-gain.field-0 done.gained

@@ -1,5 +1,9 @@
-use Rattle.std.proofs.Common.{length, take, sym, arith, rules}
+use Rattle.std.proofs.Common.{length, take, arith, rules}
+use Rattle.std.proofs.lemmas.Bool.{not-false}
 use Rattle.std.proofs.lemmas.List.{length-set, length-take-le, take_more_set}
+use Rattle.terms.specs.declared.Refusal.TheVariants.{MalformedSentence}
+use Rattle.terms.specs.Sentences.{well_formed}
+use Rattle.terms.proofs.Faults.{alone_passed, alone_refused}
 use Rattle.books.proofs.Kept.{one_more}
 use Rattle.books.proofs.Book.enter.Goals as goal
 
@@ -10,8 +14,14 @@ invariant_of-self-clause-can_be g c =
     let long = length-set cells b.count c.args.sentence in
     let more = take_more_set cells b.count c.args.sentence (omega arith) in
     let whole = length-take-le b.count cells b.fits in
-    let kept = one_more (length cells) b.sizes (take b.count cells) b.can_be c.args.sentence (sym c.if-not-is_well_formed.ensures) (omega (arith, whole)) in
+    let formed = not-false (well_formed b.sizes c.args.sentence) (alone_passed MalformedSentence _ c.in_ok-check.ensures) in
+    let kept = one_more (length cells) b.sizes (take b.count cells) b.can_be c.args.sentence formed (omega (arith, whole)) in
     rw long (rw more kept)
+
+pub returns-in_err-check-clause-entered : goal.returns-in_err-check-clause-entered
+returns-in_err-check-clause-entered g c =
+    let fault = alone_refused MalformedSentence _ c.in_err-check.field-0.0 c.in_err-check.ensures in
+    search (rules, fault)
 
 pub returns-clause-entered : goal.returns-clause-entered
 returns-clause-entered g c =
