@@ -48,18 +48,14 @@ pub fn first_number(text: &[u8], most: u64) -> Option<(u64, &[u8])>
 {
     let field = text.strip_prefix(b" ")?;
     let (value, rest) = number_at(field, most)?;
-    if is_set_off(rest, b' ') {
-        Some((value, rest))
-    } else {
-        None
-    }
+    is_set_off(rest).then_some((value, rest))
 }
 
-// Whether a text is empty or begins with a byte.
-fn is_set_off(text: &[u8], byte: u8) -> bool
-    ensures { Decides result (SetOff byte text.now) }
+// Whether a text is empty or begins with a space.
+fn is_set_off(text: &[u8]) -> bool
+    ensures { Decides result (SetOff 32 text.now) }
 {
-    text.first().is_none_or(|first| *first == byte)
+    text.first().is_none_or(|first| *first == b' ')
 }
 
 // The number at the start of a text, up to a limit and with no leading zero, and the text after its digits.
