@@ -118,7 +118,7 @@ fn memory(amount: u64) -> Option<usize>
         .filter(|_| amount <= MOST_MEMORY)
 }
 
-// `board dense CELLS` or `board sparse SIZE ENTRIES`.
+// `board dense CELLS` or `board sparse SIZE ENTRIES`. By hand: `or_else` would ask for one more function, and a definition of what it reads.
 fn board_line(line: &[u8]) -> Option<BoardPlan>
     ensures { ReadsBoard line.now result }
 {
@@ -179,7 +179,7 @@ fn withdraw_line(line: &[u8]) -> Option<Request<'_, u64>>
     Some(Request::Withdraw(usize::try_from(number).ok()?))
 }
 
-// `write ROOM`.
+// `write ROOM`. The closure stands here and below since the borrow checker does not cover a variant with a lifetime that is passed as a function.
 fn write_line(line: &[u8]) -> Option<Request<'_, u64>>
     ensures { ReadsCall request.Write line.now result }
 {
