@@ -17,7 +17,7 @@ fn find(text: &[u8], sought: u8) -> usize
 }
 
 // The first line of a text, without its line feed, and the text after it.
-fn split_line(text: &[u8]) -> (&[u8], &[u8])
+pub fn split_line(text: &[u8]) -> (&[u8], &[u8])
     ensures line { result.0.now ≡ first_line text.now }
     ensures rest { result.1.now ≡ after_line text.now }
     ensures whole { LineAndRest text.now result.0.now result.1.now }
