@@ -1,12 +1,14 @@
 -- A number in a text: where it ends, and what follows it. Assumes nothing.
-use Rattle.std.proofs.Common.{◌≡◌, ℕ, ◌^◌, ◌<◌, ◌≤◌, List, [], ◌∷◌, ◌++◌, length, take, drop, decimal, Some, None, Option, sym, refl, ap, ◌∙◌, subst, ⊎_elim, arith}
+use Rattle.std.proofs.Common.{◌≡◌, ℕ, ◌^◌, ◌<◌, ◌≤◌, Bool, true, false, List, [], ◌∷◌, ◌++◌, length, take, drop, decimal, Some, None, Option, sym, refl, ap, ◌∙◌, subst, ⊎_elim, arith}
+use Rattle.std.specs.Bool.{Decides, then_some}
+use Rattle.std.specs.Borrow.{Bor}
 use Rattle.std.specs.List.{AllByRecursion}
 use Rattle.std.proofs.lemmas.Fmt.{digits_decimal, decimal_injective}
 use Rattle.std.proofs.ByRecursion.{All-from_get_or}
-use Rattle.std.proofs.lemmas.List.{drop_all, drop_more, get_or-take, length-take-le, take-append-drop}
+use Rattle.std.proofs.lemmas.List.{drop_all, append_cancel_left, drop_more, get_or-take, length-take-le, take-append-drop}
 use Rattle.std.proofs.lemmas.Bool.{cases_lt}
 use Rattle.lines.specs.Texts.{SetOff}
-use Rattle.lines.specs.Numbers.{Reads, Digit, OnlyDigits, PastDigits, DigitsEnd}
+use Rattle.lines.specs.Numbers.{Reads, Digit, OnlyDigits, PastDigits, DigitsEnd, ReadsFirst}
 use Rattle.lines.proofs.Digits.{own}
 
 heads : (x y : ℕ) (xs ys : List ℕ) → ◌≡◌ {A = List ℕ} (x ∷ xs) (y ∷ ys) → (x ≡ y) × (xs ≡ ys)
@@ -37,6 +39,16 @@ past_space (x ∷ xs) u = λ d. omega (arith, u, d.0)
 
 pub same_number : (n m : ℕ) (xs ys : List ℕ) → n < 2 ^ 64 → m < 2 ^ 64 → SetOff 32 xs → SetOff 32 ys → decimal n ++ xs ≡ decimal m ++ ys → (n ≡ m) × (xs ≡ ys)
 same_number n m xs ys l k u v = same_start n m xs ys l k (past_space xs u) (past_space ys v)
+
+-- a number after a space, by whether a space sets off the rest
+pub set_off_number :
+    (most n : ℕ) (text : List ℕ) (rest : Bor (List ℕ)) (is : Bool) → most < 2 ^ 64 → n ≤ most → PastDigits rest.now → text ≡ 32 ∷ (decimal n ++ rest.now)
+    → Decides is (SetOff 32 rest.now) → ReadsFirst most text (then_some is (n, rest))
+set_off_number most n text rest true l small past h d = (small, d.0 refl, h)
+set_off_number most n text rest false l small past h d = λ m more k off e.
+    let same = same_start n m rest.now more (omega arith) (omega arith) past (past_space more off)
+    (append_cancel_left (32 ∷ []) (decimal n ++ rest.now) (decimal m ++ more) (sym h ∙ e)) in
+    let is = d.1 (subst (SetOff 32) (sym same.1) off) in cc
 
 -- a text is cut where its digits end
 module _ (text : List ℕ) (end : ℕ) (cut : DigitsEnd text end) where

@@ -17,7 +17,7 @@ fn find(text: &[u8], sought: u8) -> usize
 }
 
 // The first line of a text, without its line feed, and the text after it.
-fn split_line(text: &[u8]) -> (&[u8], &[u8])
+pub fn split_line(text: &[u8]) -> (&[u8], &[u8])
     ensures line { result.0.now ≡ first_line text.now }
     ensures rest { result.1.now ≡ after_line text.now }
     ensures whole { LineAndRest text.now result.0.now result.1.now }
@@ -48,18 +48,14 @@ pub fn first_number(text: &[u8], most: u64) -> Option<(u64, &[u8])>
 {
     let field = text.strip_prefix(b" ")?;
     let (value, rest) = number_at(field, most)?;
-    if is_set_off(rest, b' ') {
-        Some((value, rest))
-    } else {
-        None
-    }
+    is_set_off(rest).then_some((value, rest))
 }
 
-// Whether a text is empty or begins with a byte.
-fn is_set_off(text: &[u8], byte: u8) -> bool
-    ensures { Decides result (SetOff byte text.now) }
+// Whether a text is empty or begins with a space.
+fn is_set_off(text: &[u8]) -> bool
+    ensures { Decides result (SetOff 32 text.now) }
 {
-    text.first().is_none_or(|first| *first == byte)
+    text.first().is_none_or(|first| *first == b' ')
 }
 
 // The number at the start of a text, up to a limit and with no leading zero, and the text after its digits.

@@ -1,8 +1,8 @@
 -- Numbers with a space before each: where each ends, and what follows it. Assumes nothing.
-use Rattle.std.proofs.Common.{◌≡◌, ℕ, ◌+◌, ◌^◌, ◌<◌, ◌≤◌, List, [], ◌∷◌, ◌++◌, length, get_or, take, drop, set, Some, None, decimal, sym, refl, ap, ◌∙◌, subst, arith, take_all}
-use Rattle.std.specs.List.{AllZip}
-use Rattle.std.proofs.lemmas.List.{append_assoc, append-nil, append_cancel_left, drop_all, drop_more, take_more_set}
-use Rattle.scripts.specs.Lines.{fields}
+use Rattle.std.proofs.Common.{◌≡◌, ℕ, suc, ◌^◌, ◌<◌, Bool, true, false, List, [], ◌∷◌, ◌++◌, length, Some, None, decimal, sym, refl, ap, ◌∙◌, subst, arith}
+use Rattle.std.specs.Bool.{Decides, then_some}
+use Rattle.std.proofs.lemmas.List.{append_assoc, append-nil, append_cancel_left}
+use Rattle.scripts.specs.Lines.{fields, WithinBits}
 use Rattle.lines.specs.Texts.{SetOff}
 use Rattle.scripts.specs.Reading.{ReadsNumbers}
 use Rattle.lines.proofs.Numbers.{same_number}
@@ -11,63 +11,65 @@ set_off_fields : (ns : List ℕ) → SetOff 32 (fields ns)
 set_off_fields [] = tt
 set_off_fields (n ∷ ns) = refl
 
--- numbers up to their limits, as those of a text
-abbrev pub Are : List ℕ → List ℕ → List ℕ → Type 0
-Are limits text ns = AllZip ◌≤◌ ns limits × (text ≡ fields ns)
+-- so many numbers of 64 bits, as those of a text
+abbrev pub Are : ℕ → List ℕ → List ℕ → Type 0
+Are count text ns = (length ns ≡ count) × WithinBits 64 ns × (text ≡ fields ns)
 
--- i numbers are found: with those that the rest is they are those of the line, and where the rest is no such numbers the line is none
-pub record Found (word limits line : List ℕ) (i : ℕ) (found rest : List ℕ) : Type 0 where
-  pub some : (ns : List ℕ) → Are (drop i limits) rest ns → AllZip ◌≤◌ (take i found ++ ns) limits × (line ≡ word ++ fields (take i found ++ ns))
-  pub none : ((ns : List ℕ) → Are (drop i limits) rest ns → ⊥) → ReadsNumbers word limits line None
+-- numbers are found and some are left: with those that the rest is they are those of the line, and where the rest is no such numbers the line is none
+pub record Found (count : ℕ) (word line : List ℕ) (left : ℕ) (found rest : List ℕ) : Type 0 where
+  pub some : (ns : List ℕ) → Are left rest ns → ReadsNumbers count word line (Some (found ++ ns))
+  pub none : ((ns : List ℕ) → Are left rest ns → ⊥) → ReadsNumbers count word line None
 
-pub found_none : (word limits line found rest : List ℕ) → line ≡ word ++ rest → Found word limits line 0 found rest
-found_none word limits line found rest h = record {
-  some = λ ns are. (are.0, h ∙ ap (λ z. word ++ z) are.1);
-  none = λ never ns each e. never ns (each, append_cancel_left word rest (fields ns) (sym h ∙ e));
+pub found_none : (count : ℕ) (word line rest : List ℕ) → line ≡ word ++ rest → Found count word line count [] rest
+found_none count word line rest h = record {
+  some = λ ns are. (are.0, are.1, h ∙ ap (λ z. word ++ z) are.2);
+  none = λ never ns many within e. never ns (many, within, append_cancel_left word rest (fields ns) (sym h ∙ e));
 }
 
--- the limits that are left, one step on
-are_more : (limits text : List ℕ) (i : ℕ) (ns : List ℕ) → i < length limits → Are (drop i limits) text ns → Are (get_or limits i 0 ∷ drop (i + 1) limits) text ns
-are_more limits text i ns l are = subst (λ ms. Are ms text ns) (drop_more limits i 0 l) are
-
 -- no number stands where the next should
-pub stuck : (limits rest : List ℕ) (i : ℕ) → i < length limits → ((n : ℕ) (more : List ℕ) → n ≤ get_or limits i 0 → SetOff 32 more → rest ≡ 32 ∷ (decimal n ++ more) → ⊥) → (ns : List ℕ) → Are (drop i limits) rest ns → ⊥
-stuck limits rest i l never ns are = go ns (are_more limits rest i ns l are)
-  where
-    go : (ns : List ℕ) → Are (get_or limits i 0 ∷ drop (i + 1) limits) rest ns → ⊥
-    go [] are = are.0
-    go (n ∷ ns) are = never n (fields ns) are.0.0 (set_off_fields ns) are.1
+pub stuck : (left : ℕ) (rest : List ℕ) → ((n : ℕ) (more : List ℕ) → n < 2 ^ 64 → SetOff 32 more → rest ≡ 32 ∷ (decimal n ++ more) → ⊥) → (ns : List ℕ) → Are (suc left) rest ns → ⊥
+stuck left rest never [] are = omega (arith, are.0)
+stuck left rest never (n ∷ ns) are = never n (fields ns) are.1.0 (set_off_fields ns) are.2
 
 -- what follows the number that was read
-rest_is : (most n : ℕ) (limits rest after : List ℕ) → most < 2 ^ 64 → n ≤ most → SetOff 32 after → rest ≡ 32 ∷ (decimal n ++ after) → (ns : List ℕ) → Are (most ∷ limits) rest ns → (ms : List ℕ) × Are limits after ms
-rest_is most n limits rest after l small off h [] are = absurd are.0
-rest_is most n limits rest after l small off h (m ∷ ms) are =
-    let same = same_number n m after (fields ms) (omega arith) (omega (arith, are.0.0)) off (set_off_fields ms)
-    (append_cancel_left (32 ∷ []) (decimal n ++ after) (decimal m ++ fields ms) (sym h ∙ are.1)) in
-    (ms, (are.0.1, same.1))
+rest_is : (left n : ℕ) (rest after : List ℕ) → n < 2 ^ 64 → SetOff 32 after → rest ≡ 32 ∷ (decimal n ++ after) → (ns : List ℕ) → Are (suc left) rest ns → (ms : List ℕ) × Are left after ms
+rest_is left n rest after small off h [] are = absurd (omega (arith, are.0))
+rest_is left n rest after small off h (m ∷ ms) are =
+    let same = same_number n m after (fields ms) small are.1.0 off (set_off_fields ms)
+    (append_cancel_left (32 ∷ []) (decimal n ++ after) (decimal m ++ fields ms) (sym h ∙ are.2)) in
+    (ms, (omega (arith, are.0), are.1.1, same.1))
 
-pub found_more : (word limits line : List ℕ) (i : ℕ) (found rest after : List ℕ) (n : ℕ) → Found word limits line i found rest → i < length limits → i < length found → get_or limits i 0 < 2 ^ 64 → n ≤ get_or limits i 0 → SetOff 32 after → rest ≡ 32 ∷ (decimal n ++ after) → Found word limits line (i + 1) (set found i n) after
-found_more word limits line i found rest after n f l k fits small off h = record {
+pub found_more : (count : ℕ) (word line : List ℕ) (left : ℕ) (found rest after : List ℕ) (n : ℕ) → Found count word line (suc left) found rest → n < 2 ^ 64 → SetOff 32 after → rest ≡ 32 ∷ (decimal n ++ after) → Found count word line left (found ++ (n ∷ [])) after
+found_more count word line left found rest after n f small off h = record {
   some = λ ns are.
-      let now = f.some (n ∷ ns) (subst (λ ms. AllZip ◌≤◌ (n ∷ ns) ms) (sym (drop_more limits i 0 l)) (small, are.0), h ∙ ap (λ z. 32 ∷ (decimal n ++ z)) are.1) in
-      let e : take i found ++ (n ∷ ns) ≡ take (i + 1) (set found i n) ++ ns = sym (append_assoc (take i found) (n ∷ []) ns) ∙ ap (λ z. z ++ ns) (sym (take_more_set found i n k)) in
-      (subst (λ z. AllZip ◌≤◌ z limits) e now.0, now.1 ∙ ap (λ z. word ++ fields z) e);
+      subst (λ (z : List ℕ). ReadsNumbers count word line (Some z)) (sym (append_assoc found (n ∷ []) ns))
+      (f.some (n ∷ ns) (omega (arith, are.0), (small, are.1), h ∙ ap (λ z. 32 ∷ (decimal n ++ z)) are.2));
   none = λ never. f.none (λ ns are.
-      let r = rest_is (get_or limits i 0) n (drop (i + 1) limits) rest after fits small off h ns (are_more limits rest i ns l are) in
+      let r = rest_is left n rest after small off h ns are in
       never r.0 r.1);
 }
 
--- nothing is left to find, and nothing follows
-pub found_all : (word limits line : List ℕ) (i : ℕ) (found rest : List ℕ) → Found word limits line i found rest → length found ≤ i → length limits ≤ i → rest ≡ [] → ReadsNumbers word limits line (Some found)
-found_all word limits line i found rest f many all h =
-    let now = f.some [] (subst (λ ms. AllZip ◌≤◌ [] ms) (sym (drop_all i limits all)) tt, h) in
-    let same : take i found ++ [] ≡ found = append-nil (take i found) ∙ take_all i found many in
-    (subst (λ z. AllZip ◌≤◌ z limits) same now.0, now.1 ∙ ap (λ z. word ++ fields z) same)
-
--- nothing is left to find, and something follows
-pub too_long : (limits rest : List ℕ) (i : ℕ) → length limits ≤ i → (rest ≡ [] → ⊥) → (ns : List ℕ) → Are (drop i limits) rest ns → ⊥
-too_long limits rest i l more ns are = go ns (subst (λ ms. Are ms rest ns) (drop_all i limits l) are)
+-- nothing is left to find: the line is these numbers where nothing follows them
+pub found_all : (count : ℕ) (word line found rest : List ℕ) (ends : Bool) → Found count word line 0 found rest → Decides ends (rest ≡ []) → ReadsNumbers count word line (then_some ends found)
+found_all count word line found rest true f d =
+    subst (λ (z : List ℕ). ReadsNumbers count word line (Some z)) (append-nil found) (f.some [] (refl, tt, d.0 refl))
+found_all count word line found rest false f d = f.none go
   where
-    go : (ns : List ℕ) → Are [] rest ns → ⊥
-    go [] are = more are.1
-    go (n ∷ ns) are = are.0
+    go : (ns : List ℕ) → Are 0 rest ns → ⊥
+    go [] are = let is = d.1 are.2 in cc
+    go (n ∷ ns) are = omega (arith, are.0)
+
+-- the numbers of a line are determined
+pub same_numbers : (ns ms : List ℕ) → length ns ≡ length ms → WithinBits 64 ns → WithinBits 64 ms → fields ns ≡ fields ms → ns ≡ ms
+same_numbers [] [] l p q h = refl
+same_numbers [] (m ∷ ms) l p q h = absurd (omega (arith, l))
+same_numbers (n ∷ ns) [] l p q h = absurd (omega (arith, l))
+same_numbers (n ∷ ns) (m ∷ ms) l p q h =
+    let same = same_number n m (fields ns) (fields ms) p.0 q.0 (set_off_fields ns) (set_off_fields ms)
+    (append_cancel_left (32 ∷ []) (decimal n ++ fields ns) (decimal m ++ fields ms) h) in
+    ap (λ z. z ∷ ns) same.0 ∙ ap (λ zs. m ∷ zs) (same_numbers ns ms (omega (arith, l)) p.1 q.1 same.1)
+
+-- what was read is what any such line holds
+pub only_these : (count : ℕ) (word line ns ms : List ℕ) → ReadsNumbers count word line (Some ns) → length ms ≡ count → WithinBits 64 ms → line ≡ word ++ fields ms → ns ≡ ms
+only_these count word line ns ms read many within e =
+    same_numbers ns ms (read.0 ∙ sym many) read.1 within (append_cancel_left word (fields ns) (fields ms) (sym read.2 ∙ e))

@@ -1,16 +1,15 @@
 -- What it is to read numbers and a call off a line. Assumes nothing.
-use Rattle.std.specs.Prelude.{◌≡◌, ℕ, ◌≤◌, List, ◌++◌, Some, None, Option, ◌≢◌}
-use Rattle.std.specs.List.{AllZip}
+use Rattle.std.specs.Prelude.{◌≡◌, ℕ, List, ◌++◌, length, Some, None, Option, ◌≢◌}
 use Rattle.terms.specs.declared.Concept.{Concept}
 use Rattle.terms.specs.declared.Node.{Node}
 use Rattle.runs.specs.declared.Request.{Request}
 use Rattle.runs.specs.declared.Request.TheVariants as request
-use Rattle.scripts.specs.Lines.{fields, call_line, FieldsFit}
+use Rattle.scripts.specs.Lines.{fields, WithinBits, call_line, FieldsFit}
 
--- the line is the word and these numbers, one for each limit and up to it; or it is no such line
-abbrev pub ReadsNumbers : List ℕ → List ℕ → List ℕ → Option (List ℕ) → Type 0
-ReadsNumbers word limits line (Some ns) = AllZip ◌≤◌ ns limits × (line ≡ word ++ fields ns)
-ReadsNumbers word limits line None = (ns : List ℕ) → AllZip ◌≤◌ ns limits → line ≢ word ++ fields ns
+-- the line is the word and so many numbers of 64 bits; or it is no such line
+abbrev pub ReadsNumbers : ℕ → (word line : List ℕ) → Option (List ℕ) → Type 0
+ReadsNumbers count word line (Some ns) = (length ns ≡ count) × WithinBits 64 ns × (line ≡ word ++ fields ns)
+ReadsNumbers count word line None = (ns : List ℕ) → length ns ≡ count → WithinBits 64 ns → line ≢ word ++ fields ns
 
 -- the line is that of one sort of call, made of what the call is given; or it is no such line
 abbrev pub ReadsCall : {X : Type 0} → (X → Request ℕ) → List ℕ → Option (Request ℕ) → Type 0

@@ -1,9 +1,9 @@
 // Scripts: a list of calls as text, one to a line below four lines that say what memory to set aside, and the lines that answer them.
 #![tactic(auto)]
 
-ghost use Rattle.std.specs.Prelude.{◌≡◌, ◌++◌, IfOk, OnOk, Ok, Err, string_bytes};
+ghost use Rattle.std.specs.Prelude.{◌≡◌, ◌++◌, MatchOption, IfOk, OnOk, Ok, Err, string_bytes};
 ghost use Rattle.runs.specs.Account.{said};
-ghost use Rattle.scripts.specs.Lines.{ReadsLine, SameCall, answer_line, written_answer, as_text};
+ghost use Rattle.scripts.specs.Lines.{MemoryFits, ReadsLine, SameCall, answer_line, written_answer, as_text};
 ghost use Rattle.lines.specs.Texts.{after_lines};
 ghost use Rattle.scripts.specs.Setups.{ReadsKind, ReadsMemory, ReadsBoard, ReadsSetup};
 ghost use Rattle.scripts.specs.Reading.{ReadsNumbers, ReadsCall, settle_call, label_call};
@@ -19,16 +19,6 @@ use terms::{Concept, Node, Refusal, Sentence, Sizes};
 
 // The most cells, entries or words of memory that a script may ask for.
 pub const MOST_MEMORY: u64 = 40_000_000;
-
-// By hand: the value of a constant may call no function, so these three widen by `as`.
-// The greatest number that fits the field of a form.
-const MOST_FORM: u64 = u8::MAX as u64;
-
-// The greatest number that fits the field of a name, or of how many names there are.
-const MOST_NAME: u64 = u16::MAX as u64;
-
-// The greatest number that fits the field of a sparse board's size.
-const MOST_SIZE: u64 = u32::MAX as u64;
 
 // Which kind of label a script's book is in.
 #[derive(Clone, Copy, PartialEq, Eq)]
@@ -115,19 +105,30 @@ fn kind_line(line: &[u8]) -> Option<LabelKind>
 fn memory_line(line: &[u8], word: &[u8]) -> Option<usize>
     ensures { ReadsMemory word.now line.now result }
 {
-    let [amount] = numbers(line, word, [MOST_MEMORY])?;
-    Some(amount as usize)
+    let [amount] = numbers::<1>(line, word)?;
+    memory(amount)
 }
 
-// `board dense CELLS` or `board sparse SIZE ENTRIES`.
+// An amount of memory that may be asked for.
+fn memory(amount: u64) -> Option<usize>
+    ensures { MatchOption result (MemoryFits amount → ⊥) (λ n. (n ≡ amount) × MemoryFits n) }
+{
+    usize::try_from(amount)
+        .ok()
+        .filter(|_| amount <= MOST_MEMORY)
+}
+
+// `board dense CELLS` or `board sparse SIZE ENTRIES`. By hand: `or_else` would ask for one more function, and a definition of what it reads.
 fn board_line(line: &[u8]) -> Option<BoardPlan>
     ensures { ReadsBoard line.now result }
 {
     if let Some(cells) = memory_line(line, b"board dense") {
         return Some(BoardPlan::Dense(cells));
     }
-    let [size, entries] = numbers(line, b"board sparse", [MOST_SIZE, MOST_MEMORY])?;
-    Some(BoardPlan::Sparse(size as u32, entries as usize))
+    let [size, entries] = numbers::<2>(line, b"board sparse")?;
+    let size = u32::try_from(size).ok()?;
+    let entries = memory(entries)?;
+    Some(BoardPlan::Sparse(size, entries))
 }
 
 // The call that a line is, with the number of a label in place of the label.
@@ -147,11 +148,11 @@ pub fn request_of(line: &[u8]) -> Option<Request<'_, u64>>
 fn size_line(line: &[u8]) -> Option<Request<'_, u64>>
     ensures { ReadsCall request.Size line.now result }
 {
-    let [concepts, roles, individuals] = numbers(line, b"size", [MOST_NAME; 3])?;
+    let [concepts, roles, individuals] = numbers::<3>(line, b"size")?;
     Some(Request::Size(Sizes {
-        concepts: concepts as u16,
-        roles: roles as u16,
-        individuals: individuals as u16,
+        concepts: u16::try_from(concepts).ok()?,
+        roles: u16::try_from(roles).ok()?,
+        individuals: u16::try_from(individuals).ok()?,
     }))
 }
 
@@ -159,21 +160,13 @@ fn size_line(line: &[u8]) -> Option<Request<'_, u64>>
 fn enter_line(line: &[u8]) -> Option<Request<'_, u64>>
     ensures { ReadsCall request.Enter line.now result }
 {
-    let limits = [
-        MOST_FORM,
-        MOST_NAME,
-        MOST_NAME,
-        MOST_NAME,
-        MOST_NAME,
-        u64::MAX,
-    ];
-    let [form, first, second, role, third, label] = numbers(line, b"enter", limits)?;
+    let [form, first, second, role, third, label] = numbers::<6>(line, b"enter")?;
     Some(Request::Enter(Sentence {
-        form: form as u8,
-        first: first as u16,
-        second: second as u16,
-        role: role as u16,
-        third: third as u16,
+        form: u8::try_from(form).ok()?,
+        first: u16::try_from(first).ok()?,
+        second: u16::try_from(second).ok()?,
+        role: u16::try_from(role).ok()?,
+        third: u16::try_from(third).ok()?,
         label,
     }))
 }
@@ -182,22 +175,22 @@ fn enter_line(line: &[u8]) -> Option<Request<'_, u64>>
 fn withdraw_line(line: &[u8]) -> Option<Request<'_, u64>>
     ensures { ReadsCall request.Withdraw line.now result }
 {
-    let [number] = numbers(line, b"withdraw", [u64::MAX])?;
-    Some(Request::Withdraw(number as usize))
+    let [number] = numbers::<1>(line, b"withdraw")?;
+    Some(Request::Withdraw(usize::try_from(number).ok()?))
 }
 
-// `write ROOM`.
+// `write ROOM`. The closure stands here and below since the borrow checker does not cover a variant with a lifetime that is passed as a function.
 fn write_line(line: &[u8]) -> Option<Request<'_, u64>>
     ensures { ReadsCall request.Write line.now result }
 {
-    Some(Request::Write(memory_line(line, b"write")?))
+    memory_line(line, b"write").map(|room| Request::Write(room))
 }
 
 // `list ROOM`.
 fn list_line(line: &[u8]) -> Option<Request<'_, u64>>
     ensures { ReadsCall request.List line.now result }
 {
-    Some(Request::List(memory_line(line, b"list")?))
+    memory_line(line, b"list").map(|room| Request::List(room))
 }
 
 // `settle`.
@@ -211,24 +204,24 @@ fn settle_line(line: &[u8]) -> Option<Request<'_, u64>>
 fn label_line(line: &[u8]) -> Option<Request<'_, u64>>
     ensures { ReadsCall label_call line.now result }
 {
-    let [node, concept] = numbers(line, b"label", [MOST_NAME; 2])?;
-    Some(Request::Label(Node(node as u16), Concept(concept as u16)))
+    let [node, concept] = numbers::<2>(line, b"label")?;
+    let node = Node(u16::try_from(node).ok()?);
+    let concept = Concept(u16::try_from(concept).ok()?);
+    Some(Request::Label(node, concept))
 }
 
-// The numbers of a line that is a word and as many numbers as there are limits, a space before each and each up to its limit. The readers above
-// narrow them by `as`, proved to lose nothing, where `try_from` would test them again; they are written by index, since of a slice that is
-// written through `iter_mut` beside the limits a proof knows no element.
-fn numbers<const N: usize>(line: &[u8], word: &[u8], limits: [u64; N]) -> Option<[u64; N]>
-    ensures { ReadsNumbers word.now limits.entry line.now result }
+// The numbers of a line that is a word and so many numbers, a space before each.
+fn numbers<const N: usize>(line: &[u8], word: &[u8]) -> Option<[u64; N]>
+    ensures { ReadsNumbers N word.now line.now result }
 {
     let mut found = [0; N];
     let mut rest = line.strip_prefix(word)?;
-    for (at, most) in limits.iter().enumerate() {
-        let (number, after) = first_number(rest, *most)?;
-        found[at] = number;
+    for slot in found.iter_mut() {
+        let (number, after) = first_number(rest, u64::MAX)?;
+        *slot = number;
         rest = after;
     }
-    if rest.is_empty() { Some(found) } else { None }
+    rest.is_empty().then_some(found)
 }
 
 // The same call with the label that has the number; none where no label of the kind has it.

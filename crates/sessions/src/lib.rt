@@ -9,17 +9,18 @@ ghost use Rattle.sessions.specs.Noted.{Notes, Noted, calls_among, told_lines, An
 
 use boards::{Board, Dense, Entry, Sparse};
 use labels::{Grade, Label, Model, Whole};
-use lines::{after_line, first_line};
+use lines::split_line;
 use runs::{Outcome, Request, perform};
 use scripts::{
     BadLine, BoardPlan, LabelKind, Setup, answer, calls_of, labelled, request_of, setup_of,
 };
 use std::alloc::{AllocError, Global};
+use std::error::Error;
 use std::fmt;
 use terms::{Refusal, Sentence};
 
 // Why a line below the first four makes no call.
-#[derive(Clone, Copy)]
+#[derive(Clone, Copy, Debug)]
 enum Unmade {
     NoSuchLabel,
     BadLine(BadLine),
@@ -39,7 +40,10 @@ impl fmt::Display for Unmade {
     }
 }
 
+impl Error for Unmade {}
+
 // The calls among the lines, and how each line is answered: by the outcome of the next call, or by why it makes none.
+// Two lists, since `perform` takes the calls as one slice.
 #[derive(Drop)]
 struct Notebook<'a, L> {
     requests: Vec<Request<'a, L>>,
@@ -47,6 +51,7 @@ struct Notebook<'a, L> {
 }
 
 // The lines of a text, each without its line feed.
+// By hand: std's `split` gives one more piece after a last line feed, and what the check itself writes of a loop over `split_inclusive` it then refuses.
 #[derive(Drop)]
 struct Lines<'a> {
     rest: &'a [u8],
@@ -67,8 +72,8 @@ impl<'a> Iterator for Lines<'a> {
         if self.rest.is_empty() {
             return None;
         }
-        let line = first_line(self.rest);
-        self.rest = after_line(self.rest);
+        let (line, rest) = split_line(self.rest);
+        self.rest = rest;
         Some(line)
     }
 }

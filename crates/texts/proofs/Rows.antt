@@ -14,6 +14,13 @@ same_field : (n m e : ℕ) (xs ys : List ℕ) → n < 2 ^ 64 → m < 2 ^ 64 → 
 same_field n m e xs ys l k below h =
     let s = same_start n m (e ∷ xs) (e ∷ ys) l k (λ d. omega (arith, d.0)) (λ d. omega (arith, d.0)) h in (s.0, ap (drop 1) s.1)
 
+-- the number that begins a text is above the limit, so that none up to it does
+pub too_large :
+    {text : List ℕ} {v most e : ℕ} (rest : List ℕ) → (v ≤ 18446744073709551615) × (text ≡ decimal v ++ (e ∷ rest)) → most < v → e < 48
+    → (n : ℕ) (more : List ℕ) → n ≤ most → text ≡ decimal n ++ (e ∷ more) → ⊥
+too_large {text} {v} {most} {e} rest read large end n more small h =
+    omega (arith, large, small, (same_field v n e rest more (omega (arith, read.0)) (omega (arith, large, small, read.0)) end (sym read.1 ∙ h)).0)
+
 -- a line of values with what follows it
 abbrev pub values_onto : ℕ → List ℕ → List ℕ → List ℕ
 values_onto n [] tail = decimal n ++ (10 ∷ tail)

@@ -15,23 +15,23 @@ use labels::Label;
 use lines::number_at;
 use terms::{Refusal, Sentence, Sizes};
 
-// The number at the start of a text, up to a limit and with no leading zero, and the text after the byte that ends it.
-fn field(text: &[u8], most: u64, end: u8) -> Option<(u64, &[u8])>
+// The number at the start of a text, with no leading zero, and the text after the byte that ends it.
+fn field(text: &[u8], end: u8) -> Option<(u64, &[u8])>
     requires { end < 48 }
-    ensures { Field most end text.now result }
+    ensures { Field 18446744073709551615 end text.now result }
 {
-    let (value, rest) = number_at(text, most)?;
+    let (value, rest) = number_at(text, u64::MAX)?;
     let rest = rest.strip_prefix(&[end])?;
     Some((value, rest))
 }
 
-// The same for a number of 16 bits, which is proved to fit, where `try_from` would test it again.
+// The same for a number of 16 bits.
 fn short_field(text: &[u8], end: u8) -> Option<(u16, &[u8])>
     requires { end < 48 }
     ensures { Field 65535 end text.now result }
 {
-    let (value, rest) = field(text, u64::from(u16::MAX), end)?;
-    Some((value as u16, rest))
+    let (value, rest) = field(text, end)?;
+    Some((u16::try_from(value).ok()?, rest))
 }
 
 // The sizes whose line begins a text, and the text after that line.
@@ -49,18 +49,19 @@ fn sizes_line(text: &[u8]) -> Option<(Sizes, &[u8])>
     Some((sizes, text))
 }
 
-// The sentence, by its label's number, whose line begins a text, and the text after that line. The form is read up to 255, so that it fits.
+// The sentence, by its label's number, whose line begins a text, and the text after that line.
 fn sentence_line(text: &[u8]) -> Option<(Sentence<u64>, &[u8])>
     ensures { Line sentence_fits sentence_line text.now result }
 {
-    let (form, text) = field(text, 255, b' ')?;
+    let (form, text) = field(text, b' ')?;
+    let form = u8::try_from(form).ok()?;
     let (first, text) = short_field(text, b' ')?;
     let (second, text) = short_field(text, b' ')?;
     let (role, text) = short_field(text, b' ')?;
     let (third, text) = short_field(text, b' ')?;
-    let (label, text) = field(text, u64::MAX, b'\n')?;
+    let (label, text) = field(text, b'\n')?;
     let sentence = Sentence {
-        form: form as u8,
+        form,
         first,
         second,
         role,
@@ -123,7 +124,7 @@ fn load<L: Label>(book: &mut Book<'_, L>, text: &[u8]) -> Result<(), Misread>
 {
     let mut rest = read_sizes(book, text)?;
     let mut line = 4;
-    // By hand: where a line ends is known only when its sentence is read.
+    // By hand: the contract of a line's reader speaks of all the text that is left, as `Loads` and `BadLine` do, so that lines cut first would need both again for a line alone.
     while !rest.is_empty() {
         rest = read_sentence(book, rest).map_err(|refusal| Misread { refusal, line })?;
         line += 1;

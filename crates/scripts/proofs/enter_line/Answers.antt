@@ -1,25 +1,40 @@
-use Rattle.std.proofs.Common.{◌≡◌, ℕ, List, [], ◌∷◌, get_or, Some, codes, arith, refl, subst}
-use Rattle.std.proofs.lemmas.Slice.Eq.{text_from_reads}
-use Rattle.scripts.specs.Reading.{ReadsNumbers}
+use Rattle.std.proofs.Common.{[], ◌∷◌, refl, arith, rules}
+use Rattle.scripts.proofs.Narrowed.{no_entry, entry_read}
 use Rattle.scripts.proofs.enter_line.Goals as goal
 
 pub returns-in_err-form : goal.returns-in_err-form
 returns-in_err-form c =
     rw c.from_residual.ensures
-    (λ s fit e. c.in_err-form.ensures (s.form ∷ (s.first ∷ (s.second ∷ (s.role ∷ (s.third ∷ (s.label ∷ [])))))) (
-      omega (arith, fit.0),
-      (
-        omega (arith, fit.1.0),
-        (
-          omega (arith, fit.1.1.0),
-          (omega (arith, fit.1.1.1.0), (omega (arith, fit.1.1.1.1.0), (omega (arith, fit.2), tt))),
-        ),
-      ),
-    ) e)
+    (λ s fit e. c.in_err-form.ensures (s.form ∷ (s.first ∷ (s.second ∷ (s.role ∷ (s.third ∷ (s.label ∷ [])))))) refl
+    (omega (arith, fit.0), (omega (arith, fit.1.0), (omega (arith, fit.1.1.0), (omega (arith, fit.1.1.1.0), (omega (arith, fit.1.1.1.1.0), (fit.2, tt)))))) e)
+
+pub returns-in_err-ok : goal.returns-in_err-ok
+returns-in_err-ok c =
+    rw c.from_residual-in_err-ok.ensures
+    (no_entry c.args.line.now c.in_ok-form.field-0 c.in_ok-form.ensures (λ fit. search rules))
+
+pub returns-in_err-ok-2 : goal.returns-in_err-ok-2
+returns-in_err-ok-2 c =
+    rw c.from_residual-in_err-ok-2.ensures
+    (no_entry c.args.line.now c.in_ok-form.field-0 c.in_ok-form.ensures (λ fit. search rules))
+
+pub returns-in_err-ok-3 : goal.returns-in_err-ok-3
+returns-in_err-ok-3 c =
+    rw c.from_residual-in_err-ok-3.ensures
+    (no_entry c.args.line.now c.in_ok-form.field-0 c.in_ok-form.ensures (λ fit. search rules))
+
+pub returns-in_err-ok-4 : goal.returns-in_err-ok-4
+returns-in_err-ok-4 c =
+    rw c.from_residual-in_err-ok-4.ensures
+    (no_entry c.args.line.now c.in_ok-form.field-0 c.in_ok-form.ensures (λ fit. search rules))
+
+pub returns-in_err-ok-5 : goal.returns-in_err-ok-5
+returns-in_err-ok-5 c =
+    rw c.from_residual-in_err-ok-5.ensures
+    (no_entry c.args.line.now c.in_ok-form.field-0 c.in_ok-form.ensures (λ fit. search rules))
 
 pub returns : goal.returns
 returns c =
-    let ns = c.in_ok-form.field-0 in
-    let are : ns ≡ get_or ns 0 0 ∷ (get_or ns 1 0 ∷ (get_or ns 2 0 ∷ (get_or ns 3 0 ∷ (get_or ns 4 0 ∷ (get_or ns 5 0 ∷ ([])))))) = text_from_reads ns _ (omega arith) (refl, (refl, (refl, (refl, (refl, (refl, tt)))))) in
-    let read = subst (λ (l : List ℕ). ReadsNumbers (codes "enter") (255 ∷ (65535 ∷ (65535 ∷ (65535 ∷ (65535 ∷ (18446744073709551615 ∷ [])))))) c.args.line.now (Some l)) are c.in_ok-form.ensures in
-    (_, refl, (omega (arith, read.0.0), (omega (arith, read.0.1.0), (omega (arith, read.0.1.1.0), (omega (arith, read.0.1.1.1.0), (omega (arith, read.0.1.1.1.1.0), tt)))), omega (arith, read.0.1.1.1.1.1.0)), read.1)
+    entry_read c.args.line.now c.in_ok-form.field-0 c.in_ok-form.ensures _
+    (search rules, search rules, search rules, search rules, search rules, search rules)
+    (search rules, (search rules, (search rules, (search rules, (search rules, tt)))), search rules)
