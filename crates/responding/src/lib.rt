@@ -90,10 +90,8 @@ fn put_refusal(misread: Misread, out: &mut [u8; OUTPUT_ROOM]) -> usize
     ensures { Written misread out.old result out.new }
 {
     let mut output = Output::new(out);
-    match put_misread(&mut output, misread) {
-        Ok(()) => output.count(),
-        Err(_) => unreachable(),
-    }
+    put_misread(&mut output, misread).unwrap();
+    output.count()
 }
 
 // Puts the line of a refusal. By hand: `write!` says nothing of why it fails, and this must not fail where there is room.
