@@ -110,19 +110,16 @@ pub fn printed_bytes_are_determined<L: Label>()
 {}
 
 // Fills memory from a stream, up to the end of either. Answers the number of bytes.
-// By hand: `read_to_end` needs the heap, and `read_exact` refuses a stream that ends early.
+// By hand: no method of std fills lent memory from a stream that may end early (`read_to_end` needs the heap, `read_exact` refuses).
 pub fn read_input<R: Read>(stream: &mut R, into: &mut [u8]) -> io::Result<usize>
     ensures within { IfOk result (λ n. n ≤ length into.new) }
     ensures taken { IfOk result (λ n. Takes (R.remaining stream.old) (take n into.new) (length into.new) (R.remaining stream.new)) }
 {
     let mut count = 0;
-    for reads in 0..u64::MAX {
-        if count >= into.len() {
-            return Ok(count);
-        }
+    while count < into.len() {
         let got = stream.read(&mut into[count..])?;
         if got == 0 {
-            return Ok(count);
+            break;
         }
         count += got;
     }
