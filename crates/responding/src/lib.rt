@@ -61,6 +61,7 @@ pub fn respond<L: Label, B: Board<L>>(
     ensures prints { Prints L.Label.kind input.now (memory cells.old (B.Board.meaning board.old) out.old) result (memory cells.new (B.Board.meaning board.new) out.new) }
 {
     let mut book = Book::blank(cells);
+    // By hand, and not by `unwrap_or_else`: where its closure is not called, a proof has no name for what `out` then holds.
     match list_text(input, &mut book, board, out) {
         Ok(count) => count,
         Err(misread) => put_refusal(misread, out),
