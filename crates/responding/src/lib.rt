@@ -1,13 +1,13 @@
 // From the text of a book to the listing of its labels: every byte that the programs print.
 #![tactic(auto)]
 
-ghost use Rattle.std.specs.Prelude.{◌≡◌, ◌≤◌, length, take, IfOk};
+ghost use Rattle.std.specs.Prelude.{◌≡◌, ◌≤◌, length, take, IfOk, OnOk};
 ghost use Rattle.books.specs.Held.{contents, SameCells};
 ghost use Rattle.output.specs.Puts.{Puts};
 ghost use Rattle.responding.specs.Once.{OneAnswer};
 ghost use Rattle.responding.specs.Room.{ArraysFit};
 ghost use Rattle.responding.specs.Reading.{Takes};
-ghost use Rattle.responding.specs.Answers.{refusal_line, Written, holding, Tried, memory, Prints, PrintsRead};
+ghost use Rattle.responding.specs.Answers.{refusal_line, Written, holding, Tried, memory, Prints, PrintsRead, PrintsTo};
 
 use boards::{Board, Entry, Sparse};
 use books::Book;
@@ -15,7 +15,7 @@ use labels::Label;
 use listings::list;
 use output::Output;
 use std::io;
-use std::io::Read;
+use std::io::{Read, Write};
 use terms::{Refusal, Sentence};
 use texts::Misread;
 use texts::read::read_text;
@@ -47,6 +47,16 @@ pub fn answer<L: Label, R: Read>(stream: &mut R, out: &mut [u8; OUTPUT_ROOM]) ->
     let mut board = Sparse::new(&mut entries, LARGEST_BOARD);
     let count = read_input(stream, &mut input)?;
     Ok(respond(&input[..count], &mut cells, &mut board, out))
+}
+
+// Answers a text in labels of this type from a stream: writes to the writer what is to be printed.
+pub fn print_answer<L: Label, R: Read, W: Write>(stream: &mut R, writer: &mut W) -> io::Result<()>
+    requires { ArraysFit L.row }
+    ensures { OnOk result (PrintsTo L.Label.kind (R.remaining stream.old) (R.remaining stream.new) (W.contents writer.old) (W.contents writer.new)) }
+{
+    let mut output = [0; OUTPUT_ROOM];
+    let count = answer::<L, _>(stream, &mut output)?;
+    writer.write_all(&output[..count])
 }
 
 // Reads the input into a book over the cells, settles it on the board, and writes what is to be printed: the listing, or the line of a
