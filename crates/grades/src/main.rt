@@ -2,12 +2,9 @@
 #![tactic(auto)]
 
 use labels::Grade;
-use responding::{OUTPUT_ROOM, answer};
+use responding::print_answer;
 use std::io;
-use std::io::Write;
 
 fn main(rt: HostRuntime) -> io::Result<()> {
-    let mut output = [0; OUTPUT_ROOM];
-    let count = answer::<Grade, _>(&mut rt.stdin(), &mut output)?;
-    rt.write_all(&output[..count])
+    print_answer::<Grade, _, _>(&mut rt.stdin(), &mut io::writer(&rt))
 }

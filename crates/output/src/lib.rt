@@ -5,7 +5,8 @@ ghost use Rattle.std.specs.Prelude.{◌≤◌, length};
 
 use terms::Refusal;
 
-// Lent memory, of which the first `count` items are written. No `Vec`: writing takes no heap.
+// Lent memory, of which the first `count` items are written: bytes so far, and by its type records as well. No `Vec`: writing takes no heap.
+// By hand, as a book and a sparse board hold theirs: a struct shared by the three could lend no slice to write in, past its ghost field.
 #[derive(Drop)]
 pub struct Output<'a, T> {
     memory: &'a mut [T],

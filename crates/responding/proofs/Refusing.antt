@@ -1,10 +1,12 @@
 -- The line of a refusal, in pieces and whole, and how long it can be. Assumes nothing.
-use Rattle.std.proofs.Common.{◌≡◌, ℕ, ◌^◌, ◌<◌, ◌≤◌, List, [], ◌∷◌, ◌++◌, length, drop, Ok, codes, decimal, sym, ap, ◌∙◌, arith, lit<}
+use Rattle.std.proofs.Common.{◌≡◌, ℕ, ◌^◌, ◌+◌, ◌<◌, ◌≤◌, List, [], ◌∷◌, ◌++◌, length, drop, Ok, Err, Result, codes, decimal, sym, refl, ap, ◌∙◌, arith, lit<}
 use Rattle.std.proofs.lemmas.Fmt.{length-decimal-le}
 use Rattle.std.proofs.lemmas.List.{append_assoc, length-append}
 use Rattle.terms.specs.declared.Refusal.{Refusal}
 use Rattle.terms.specs.declared.Refusal.TheVariants.{SizesOutsideLimits, MalformedSentence, NoSuchLabel, BookFull, OutOfRange, NotSettled, TooFewPlaces, BoardFull, MemoryTooShort, MalformedDescription, MalformedLine}
 use Rattle.terms.specs.Refusals.{number_of, Fills}
+use Rattle.output.specs.declared.Output.{Output}
+use Rattle.output.specs.Puts.{Puts}
 use Rattle.texts.specs.declared.Misread.{Misread}
 use Rattle.responding.specs.Answers.{refusal_line, Written}
 
@@ -26,7 +28,7 @@ pub parted : (bad : Misread) → codes "refused " ++ (decimal (number_of bad.ref
 parted bad = sym (append_assoc (codes "refused " ++ decimal (number_of bad.refusal)) (codes " line " ++ decimal bad.line) (10 ∷ []) ∙ append_assoc (codes "refused ") (decimal (number_of bad.refusal)) ((codes " line " ++ decimal bad.line) ++ (10 ∷ [])))
 
 -- the line has at most 55 bytes
-pub line_short : (bad : Misread) → bad.line < 2 ^ 64 → length (refusal_line bad) ≤ 55
+line_short : (bad : Misread) → bad.line < 2 ^ 64 → length (refusal_line bad) ≤ 55
 line_short bad small =
     let n : ℕ = number_of bad.refusal in
     let few = number_small bad.refusal in
@@ -35,6 +37,11 @@ line_short bad small =
     let inner = length-append (decimal bad.line) (10 ∷ []) in
     let outer = length-append (decimal n) (codes " line " ++ (decimal bad.line ++ (10 ∷ []))) in
     omega (arith, one, two, inner, outer, ap length (parted bad))
+
+-- where there is room for the longest line, a line is put whole
+pub put_whole : (bad : Misread) → bad.line < 2 ^ 64 → (old new : Output ℕ) (r : Result (Unit {0}) Refusal) → Puts old (refusal_line bad) r new → old.count + 55 ≤ length old.memory.now → r ≡ Ok tt
+put_whole bad small old new (Ok u) p room = refl
+put_whole bad small old new (Err e) p room = absurd (omega (arith, p.leaves.1, room, line_short bad small))
 
 -- a line written whole from the start of a memory
 pub line_written : (bad : Misread) (old new : List ℕ) (n : ℕ) → Fills (refusal_line bad) old (Ok n) new → Written bad old n new

@@ -13,6 +13,7 @@ use Rattle.texts.specs.declared.Misread.{Misread}
 use Rattle.texts.specs.Lines.{misread_line, outside_reading}
 use Rattle.texts.specs.Texts.{ReadBook, RefusedText}
 use Rattle.listings.specs.Listing.{listing}
+use Rattle.std.specs.Io.KnownBytes.{Appends}
 use Rattle.responding.specs.Reading.{Takes}
 
 -- the most bytes of input that are read
@@ -138,3 +139,12 @@ pub record PrintsRead {L : Type 0} (k : Kind L) (stream rest : Option (List ℕ)
   pub old_out : before.out ≡ old
   pub new_out : after.out ≡ new
   pub prints : Prints k input before n after
+
+-- the bytes that a writer holds, where they are known, grow by what is so printed, over an output memory of 16384 bytes
+pub record PrintsTo {L : Type 0} (k : Kind L) (stream rest held grown : Option (List ℕ)) : Type 0 where
+  pub old : List ℕ
+  pub n : ℕ
+  pub new : List ℕ
+  pub room : length old ≡ 16384
+  pub prints : PrintsRead k stream rest old n new
+  pub written : Appends held grown (take n new)

@@ -1,13 +1,13 @@
 // From the text of a book to the listing of its labels: every byte that the programs print.
 #![tactic(auto)]
 
-ghost use Rattle.std.specs.Prelude.{◌≡◌, ◌≤◌, length, take, IfOk};
+ghost use Rattle.std.specs.Prelude.{◌≡◌, ◌≤◌, length, take, IfOk, OnOk};
 ghost use Rattle.books.specs.Held.{contents, SameCells};
 ghost use Rattle.output.specs.Puts.{Puts};
 ghost use Rattle.responding.specs.Once.{OneAnswer};
 ghost use Rattle.responding.specs.Room.{ArraysFit};
 ghost use Rattle.responding.specs.Reading.{Takes};
-ghost use Rattle.responding.specs.Answers.{refusal_line, Written, holding, Tried, memory, Prints, PrintsRead};
+ghost use Rattle.responding.specs.Answers.{refusal_line, Written, holding, Tried, memory, Prints, PrintsRead, PrintsTo};
 
 use boards::{Board, Entry, Sparse};
 use books::Book;
@@ -15,7 +15,7 @@ use labels::Label;
 use listings::list;
 use output::Output;
 use std::io;
-use std::io::Read;
+use std::io::{Read, Write};
 use terms::{Refusal, Sentence};
 use texts::Misread;
 use texts::read::read_text;
@@ -49,6 +49,16 @@ pub fn answer<L: Label, R: Read>(stream: &mut R, out: &mut [u8; OUTPUT_ROOM]) ->
     Ok(respond(&input[..count], &mut cells, &mut board, out))
 }
 
+// Answers a text in labels of this type from a stream: writes to the writer what is to be printed.
+pub fn print_answer<L: Label, R: Read, W: Write>(stream: &mut R, writer: &mut W) -> io::Result<()>
+    requires { ArraysFit L.row }
+    ensures { OnOk result (PrintsTo L.Label.kind (R.remaining stream.old) (R.remaining stream.new) (W.contents writer.old) (W.contents writer.new)) }
+{
+    let mut output = [0; OUTPUT_ROOM];
+    let count = answer::<L, _>(stream, &mut output)?;
+    writer.write_all(&output[..count])
+}
+
 // Reads the input into a book over the cells, settles it on the board, and writes what is to be printed: the listing, or the line of a
 // refusal and nothing else. Answers the number of bytes.
 pub fn respond<L: Label, B: Board<L>>(
@@ -61,6 +71,7 @@ pub fn respond<L: Label, B: Board<L>>(
     ensures prints { Prints L.Label.kind input.now (memory cells.old (B.Board.meaning board.old) out.old) result (memory cells.new (B.Board.meaning board.new) out.new) }
 {
     let mut book = Book::blank(cells);
+    // By hand, and not by `unwrap_or_else`: where its closure is not called, a proof has no name for what `out` then holds.
     match list_text(input, &mut book, board, out) {
         Ok(count) => count,
         Err(misread) => put_refusal(misread, out),
@@ -90,10 +101,8 @@ fn put_refusal(misread: Misread, out: &mut [u8; OUTPUT_ROOM]) -> usize
     ensures { Written misread out.old result out.new }
 {
     let mut output = Output::new(out);
-    match put_misread(&mut output, misread) {
-        Ok(()) => output.count(),
-        Err(_) => unreachable(),
-    }
+    put_misread(&mut output, misread).unwrap();
+    output.count()
 }
 
 // Puts the line of a refusal. By hand: `write!` says nothing of why it fails, and this must not fail where there is room.
@@ -112,19 +121,16 @@ pub fn printed_bytes_are_determined<L: Label>()
 {}
 
 // Fills memory from a stream, up to the end of either. Answers the number of bytes.
-// By hand: `read_to_end` needs the heap, and `read_exact` refuses a stream that ends early.
+// By hand: no method of std fills lent memory from a stream that may end early (`read_to_end` needs the heap, `read_exact` refuses).
 pub fn read_input<R: Read>(stream: &mut R, into: &mut [u8]) -> io::Result<usize>
     ensures within { IfOk result (λ n. n ≤ length into.new) }
     ensures taken { IfOk result (λ n. Takes (R.remaining stream.old) (take n into.new) (length into.new) (R.remaining stream.new)) }
 {
     let mut count = 0;
-    for reads in 0..u64::MAX {
-        if count >= into.len() {
-            return Ok(count);
-        }
+    while count < into.len() {
         let got = stream.read(&mut into[count..])?;
         if got == 0 {
-            return Ok(count);
+            break;
         }
         count += got;
     }

@@ -36,6 +36,7 @@ pub enum Outcome<L> {
     Done(Result<(), Refusal>),
     Read(Result<(), Misread>),
     Label(Result<L, Refusal>),
+    // By hand, a count beside its memory: the log keeps the whole memory, past what was written too, and after a refusal.
     Bytes(Result<usize, Refusal>, Vec<u8>),
 }
 

@@ -6,12 +6,12 @@ use crate::Refusal;
 // What a sentence says, by the form of the field's axiom.
 #[derive(Clone, Copy, Debug, PartialEq, Eq)]
 pub enum Form {
-    Inclusion = 1,
-    Conjunction = 2,
-    ExistentialOnRight = 3,
-    ExistentialOnLeft = 4,
-    ConceptAssertion = 5,
-    RoleAssertion = 6,
+    Inclusion,
+    Conjunction,
+    ExistentialOnRight,
+    ExistentialOnLeft,
+    ConceptAssertion,
+    RoleAssertion,
 }
 
 impl TryFrom<u8> for Form {

@@ -10,20 +10,27 @@ use std::io::Write;
 use std::rt::Files;
 use std::{env, io};
 
+// A program that a text is answered as.
+#[derive(Clone, Copy)]
+enum Program {
+    Models,
+    Grades,
+}
+
 fn main(rt: HostRuntime) -> anyhow::Result<()> {
-    let mut grades = false;
+    let mut program = Program::Models;
     for word in env::args(&rt)?.skip(1) {
-        match word.as_str() {
-            "models" => grades = false,
-            "grades" => grades = true,
-            path if grades => answer_one::<Grade>(&rt, path)?,
-            path => answer_one::<Model>(&rt, path)?,
+        match (word.as_str(), program) {
+            ("models", _) => program = Program::Models,
+            ("grades", _) => program = Program::Grades,
+            (path, Program::Models) => answer_one::<Model>(&rt, path)?,
+            (path, Program::Grades) => answer_one::<Grade>(&rt, path)?,
         }
     }
     Ok(())
 }
 
-// Answers one text under its name.
+// Answers one text under its name. By hand, and not by `print_answer`: of a text that cannot be read no name is printed.
 fn answer_one<L: Label>(rt: &(impl Files + Print), path: &str) -> anyhow::Result<()>
     requires { ArraysFit L.row }
 {

@@ -3,6 +3,7 @@
 
 use sessions::answers;
 use std::io::Write;
+use std::rt::Files;
 use std::{env, fs};
 
 fn main(rt: HostRuntime) -> anyhow::Result<()> {
@@ -12,8 +13,8 @@ fn main(rt: HostRuntime) -> anyhow::Result<()> {
     Ok(())
 }
 
-// Answers one script under its name.
-fn answer_one(rt: &HostRuntime, path: &str) -> anyhow::Result<()> {
+// Answers one script under its name. By hand, as in `calls`: what is printed where memory runs out is the program's own, and no part of an answer.
+fn answer_one(rt: &(impl AllocGlobal + Files + Print), path: &str) -> anyhow::Result<()> {
     let script = fs::read(rt, path)?;
     println!(rt; "{path}:")?;
     match answers(rt.alloc(), script.as_slice()) {

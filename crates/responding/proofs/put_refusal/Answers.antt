@@ -1,15 +1,19 @@
-use Rattle.std.proofs.Common.{length, refl, ap, arith, rules}
+use Rattle.std.proofs.Common.{◌≡◌, is_ok, length, refl, ap, subst, arith, rules}
 use Rattle.output.proofs.Putting.{puts_fill}
-use Rattle.responding.proofs.Refusing.{line_short, line_written}
+use Rattle.output.specs.Puts.{Puts}
+use Rattle.responding.specs.Answers.{refusal_line}
+use Rattle.responding.proofs.Refusing.{put_whole, line_written}
 use Rattle.responding.proofs.put_refusal.Goals as goal
 
-pub unreachable-requires : goal.unreachable-requires
-unreachable-requires c =
+pub unwrap-requires : goal.unwrap-requires
+unwrap-requires c =
     let begun = c.new-output.ensures in
-    omega (arith, c.in-Err.ensures.leaves.1, begun.nothing_yet, ap length begun.as_it_was, line_short c.args.misread (search rules))
+    let room : length c.new-output.result.memory.now ≡ 16384 = search rules in
+    ap is_ok (put_whole c.args.misread (search rules) c.new-output.result c.put_misread.new.output c.put_misread.result c.put_misread.ensures (omega (arith, begun.nothing_yet, room)))
 
 pub returns : goal.returns
 returns c =
     let begun = c.new-output.ensures in
     line_written c.args.misread c.args.out.now c.put_misread.new.output.memory.now c.count.result
-    (puts_fill begun.as_it_was begun.nothing_yet refl c.count.ensures c.in-Ok.ensures)
+    (puts_fill begun.as_it_was begun.nothing_yet refl c.count.ensures
+    (subst (λ r. Puts c.new-output.result (refusal_line c.args.misread) r c.put_misread.new.output) c.unwrap.ensures c.put_misread.ensures))

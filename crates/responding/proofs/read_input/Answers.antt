@@ -17,18 +17,17 @@ read_on at got xs ys fits some =
     ∙ sym (append_assoc (take at xs) (take got ys) (drop got ys ++ rest)) in
     ap (take (at + got)) split ∙ take_at (take at xs ++ take got ys) (drop got ys ++ rest) (at + got) (omega (arith, one, two, both))
 
-pub loop-reads-preserved : goal.loop-reads-preserved
-loop-reads-preserved g c =
-    let l = c.loop-reads in
+pub loop-count-preserved : goal.loop-count-preserved
+loop-count-preserved g c =
+    let l = c.loop-count in
     let i = l.invariant in
     let got = c.in_ok-got.got in
     let part = c.read.new.buf in
     let given = c.in_ok-got.ensures in
     let rest : List ℕ = drop (length l.into - l.count) (drop l.count l.into) in (
       omega (arith, given.bound.0, length-append (take l.count l.into) (part ++ rest), length-append part rest, length-take-le l.count l.into i.0),
-      omega (arith, c.if-got-eq0.false, i.1),
       subst (λ bs. Consumes (g.R.Read.remaining c.args.stream.now) (g.R.Read.remaining c.read.new.self) bs)
           (sym (read_on l.count got l.into part i.0 given.bound.0))
           (Consumes-trans (g.R.Read.remaining c.args.stream.now) (g.R.Read.remaining l.stream) (g.R.Read.remaining c.read.new.self)
-          (take l.count l.into) (take got part) i.2 given.bytes.0),
+          (take l.count l.into) (take got part) i.1 given.bytes.0),
     )
