@@ -67,7 +67,7 @@ pub fn number_at(text: &[u8], most: u64) -> Option<(u64, &[u8])>
     Some((value, rest))
 }
 
-// Where the digits at the start of a text end.
+// Where the digits at the start of a text end. By hand beside `find`: one function for both would take a closure, and ask for a clause on it at each.
 fn digits_end(text: &[u8]) -> usize
     ensures { DigitsEnd text.now result }
 {

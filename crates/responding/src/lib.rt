@@ -105,7 +105,8 @@ fn put_refusal(misread: Misread, out: &mut [u8; OUTPUT_ROOM]) -> usize
     output.count()
 }
 
-// Puts the line of a refusal. By hand: `write!` says nothing of why it fails, and this must not fail where there is room.
+// Puts the line of a refusal. By hand: `write!` says nothing of why it fails, and this must not fail where there is room. `std` has no `From` that
+// widens a `usize`, so `as` does.
 fn put_misread(output: &mut Output<'_, u8>, misread: Misread) -> Result<(), Refusal>
     ensures { Puts output.old (refusal_line misread) result output.new }
 {

@@ -210,7 +210,8 @@ fn label_line(line: &[u8]) -> Option<Request<'_, u64>>
     Some(Request::Label(node, concept))
 }
 
-// The numbers of a line that is a word and so many numbers, a space before each.
+// The numbers of a line that is a word and so many numbers, a space before each. The readers of a book's text do not serve: there a byte ends each
+// number, and here a space begins it.
 fn numbers<const N: usize>(line: &[u8], word: &[u8]) -> Option<[u64; N]>
     ensures { ReadsNumbers N word.now line.now result }
 {

@@ -152,7 +152,7 @@ fn at_nodes<L: Label, B: Board<L>>(
     Ok(grew)
 }
 
-// A sentence at one node, by its form.
+// A sentence at one node, by its form. Here and below it is asked that the node is one: a type of such nodes would have to carry the sizes.
 fn at_node<L: Label, B: Board<L>>(
     sizes: Sizes,
     sentence: Sentence<L>,

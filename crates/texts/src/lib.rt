@@ -8,7 +8,7 @@ use terms::Refusal;
 pub mod read;
 pub mod write;
 
-// Why a text was refused, and the number of the line, from 1; 0 where the refusal comes from no line.
+// Why a text was refused, and the number of the line, from 1; 0 where the refusal comes from no line, and no Option, as `line 0` is what is told.
 #[derive(Clone, Copy, Debug)]
 pub struct Misread {
     pub refusal: Refusal,

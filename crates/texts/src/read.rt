@@ -124,7 +124,7 @@ fn load<L: Label>(book: &mut Book<'_, L>, text: &[u8]) -> Result<(), Misread>
 {
     let mut rest = read_sizes(book, text)?;
     let mut line = 4;
-    // By hand: the contract of a line's reader speaks of all the text that is left, as `Loads` and `BadLine` do, so that lines cut first would need both again for a line alone.
+    // By hand: `Loads` and `BadLine` speak of all the text that is left; lines cut out first would need both again for a line alone.
     while !rest.is_empty() {
         rest = read_sentence(book, rest).map_err(|refusal| Misread { refusal, line })?;
         line += 1;
