@@ -51,7 +51,7 @@ impl<'a, L: Label> Board<L> for Dense<'a, L> {
         clear_cells(self.cells);
     }
 
-    // The search stops at the last cell.
+    // A search of its own, since the trait's would go on past the last cell, up to any `to`.
     fn next_some(&self, from: usize, to: usize) -> Option<usize> {
         (from..to.min(self.cells.len())).find(|place| self.read(*place).number() != 0)
     }

@@ -8,7 +8,7 @@ use boards::Board;
 use labels::Label;
 use terms::{Concept, Node, Refusal, Sentence, Sizes};
 
-// A book: the field's knowledge base. Its sentences lie in memory of its own, one to a cell. No `Vec`: the cells are lent, and a book takes no heap.
+// A book: the field's knowledge base. Its sentences lie one to a cell, in memory that is lent. No `Vec`: a book takes no heap.
 // The sizes are within their limits, and the first `count` cells are sentences for them.
 // Each call that takes a book by `&mut` says `SameCells`, since a caller knows the cells only while the book is over the same.
 #[derive(Drop)]

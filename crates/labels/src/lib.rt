@@ -50,7 +50,8 @@ pub trait Label: Copy {
     fn views() -> u16
         ensures { result ≡ kind.views };
 
-    // The label's number: equal for two labels exactly when their views are.
+    // The label's number: equal for two labels exactly when their views are. Labels are compared by it and by no `PartialEq`, since two values may hold
+    // the same views.
     fn number(self) -> u64
         ensures { result ≡ kind.number self };
 

@@ -15,7 +15,7 @@ use output::Output;
 use terms::{Concept, Node, Refusal, Sizes};
 use texts::write::put_values;
 
-// Writes each label that is not none, by node and concept.
+// Writes each label that is not none, by node and concept; concept 0 is left out.
 pub fn list<L: Label, B: Board<L>>(
     book: &Book<'_, L>,
     board: &B,
@@ -47,7 +47,8 @@ fn put_listing<L: Label, B: Board<L>>(
     Ok(())
 }
 
-// Puts the lines of a node. It steps from label to label that is not none, past concept 0: an iterator over these would serve this loop alone.
+// Puts the lines of a node. It steps from label to label that is not none, past concept 0. By hand: a `for` over its concepts would search a sparse
+// board once for each, and no other loop would share an iterator.
 fn put_node<L: Label, B: Board<L>>(
     output: &mut Output<'_, u8>,
     sizes: Sizes,

@@ -70,7 +70,7 @@ impl Output<'_, u8> {
         self.put(end)
     }
 
-    // Puts bytes.
+    // Puts bytes, one by one: `copy_from_slice` would first have to cut them to the room that is left, and refuse after.
     pub fn put_bytes(&mut self, bytes: &[u8]) -> Result<(), Refusal>
         ensures { Puts self.old bytes.now result self.new }
     {

@@ -49,7 +49,8 @@ pub fn answer<L: Label, R: Read>(stream: &mut R, out: &mut [u8; OUTPUT_ROOM]) ->
     Ok(respond(&input[..count], &mut cells, &mut board, out))
 }
 
-// Answers a text in labels of this type from a stream: writes to the writer what is to be printed.
+// Answers a text in labels of this type from a stream: writes to the writer what is to be printed. Each function that sets arrays of labels aside asks
+// `ArraysFit`: no law of `Label` bounds what a label takes in memory. Arrays with a number beside them, and no `Vec`: the programs take no heap.
 pub fn print_answer<L: Label, R: Read, W: Write>(stream: &mut R, writer: &mut W) -> io::Result<()>
     requires { ArraysFit L.row }
     ensures { OnOk result (PrintsTo L.Label.kind (R.remaining stream.old) (R.remaining stream.new) (W.contents writer.old) (W.contents writer.new)) }

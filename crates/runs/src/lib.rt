@@ -17,7 +17,7 @@ use texts::Misread;
 use texts::read::read_text;
 use texts::write::write_text;
 
-// One call: what it is given. Writing and listing are given fresh memory, of as many bytes as `room` says, all 0.
+// One call: what it is given. Writing and listing are given fresh memory, of as many bytes as the number says, all 0.
 #[derive(Drop)]
 pub enum Request<'a, L> {
     Size(Sizes),

@@ -225,7 +225,8 @@ fn numbers<const N: usize>(line: &[u8], word: &[u8]) -> Option<[u64; N]>
     rest.is_empty().then_some(found)
 }
 
-// The same call with the label that has the number; none where no label of the kind has it.
+// The same call with the label that has the number; none where no label of the kind has it. Variant by variant: the type of the label changes, so
+// that no arm can hand the request on as it is.
 pub fn labelled<'a, L: Label>(request: &Request<'a, u64>) -> Option<Request<'a, L>>
     ensures { SameCall L.Label.kind request.now result }
 {

@@ -45,7 +45,7 @@ fn all_well_formed<L: Label>(sizes: Sizes, sentences: &[Sentence<L>]) -> bool
 }
 
 // From a cleared board: tops, selves, then rounds until one brings nothing. Sizes, sentences and board are arguments of each part, and no struct.
-// Of a struct each part would have to say as well that the sizes and the borrow of the board are as they were.
+// Of a struct each part would have to say as well that the sizes and the borrow of the board are as they were, beside `Ready`, which each part asks.
 fn fill<L: Label, B: Board<L>>(
     sizes: Sizes,
     sentences: &[Sentence<L>],
@@ -107,7 +107,8 @@ fn round<L: Label, B: Board<L>>(
     Ok(grew)
 }
 
-// One sentence, at each node that it speaks of; true where the board grew.
+// One sentence, at each node that it speaks of; true where the board grew. Nodes are made by hand here and below: `individual_node` and
+// `concept_node` would give errors that cannot come.
 fn apply<L: Label, B: Board<L>>(
     sizes: Sizes,
     sentence: Sentence<L>,
@@ -135,7 +136,7 @@ fn apply<L: Label, B: Board<L>>(
     }
 }
 
-// A sentence that speaks of every node, at the nodes rising.
+// A sentence that speaks of every node, at the nodes rising. The form stands in the contracts by its number, as a sentence holds it.
 fn at_nodes<L: Label, B: Board<L>>(
     sizes: Sizes,
     sentence: Sentence<L>,
@@ -190,7 +191,8 @@ fn at_node<L: Label, B: Board<L>>(
     }
 }
 
-// Existential on the left: whatever has a role-link to some first is a third. It steps through the node's links along the role; no iterator can, as the board changes.
+// Existential on the left: whatever has a role-link to some first is a third. It steps through the node's links along the role.
+// By hand: a `for` over all nodes would search a sparse board once for each, and an iterator over links cannot hold a board that changes.
 fn existential_on_left<L: Label, B: Board<L>>(
     sizes: Sizes,
     sentence: Sentence<L>,

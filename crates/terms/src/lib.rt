@@ -84,6 +84,7 @@ impl Refusal {
     }
 }
 
+// By hand, here and for each other error: what `thiserror` derives has no contract, and these bytes are promised.
 impl fmt::Display for Refusal {
     ghost use Rattle.std.specs.Prelude.{Some};
     ghost use Rattle.terms.specs.Refusals.{refused_line};

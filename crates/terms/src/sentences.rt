@@ -24,7 +24,7 @@ impl<L: Label> Sentence<L> {
 }
 
 impl<L: Copy> Sentence<L> {
-    // The same sentence with another label.
+    // The same sentence with another label. Field by field: a copy by `..self` cannot have another type of label.
     pub fn with_label<M>(self, label: M) -> Sentence<M>
         ensures { result ≡ relabelled self label }
     {

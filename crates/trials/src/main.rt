@@ -13,7 +13,8 @@ fn main(rt: HostRuntime) -> anyhow::Result<()> {
     Ok(())
 }
 
-// Answers one script under its name. By hand, as in `calls`: what is printed where memory runs out is the program's own, and no part of an answer.
+// Answers one script under its name. By hand, as in `calls`: one function for both would take a heap and a writer, and need a contract where now
+// neither has one.
 fn answer_one(rt: &(impl AllocGlobal + Files + Print), path: &str) -> anyhow::Result<()> {
     let script = fs::read(rt, path)?;
     println!(rt; "{path}:")?;
