@@ -15,11 +15,11 @@ Outcome = Result (Unit {0}) Refusal
 
 module _ {X : Type 0} where
   -- how many items are written
-  written_long : (o : Output X) → length (written o) ≡ o.count
+  pub written_long : (o : Output X) → length (written o) ≡ o.count
   written_long o = length-take-le o.count o.memory.now o.within
 
   -- an accepted writing moves the place by as many items as it has
-  count_moves : (old new : Output X) (xs : List X) → Puts old xs (Ok tt) new → new.count ≡ old.count + length xs
+  pub count_moves : (old new : Output X) (xs : List X) → Puts old xs (Ok tt) new → new.count ≡ old.count + length xs
   count_moves old new xs p =
       let a = written_long old in
       let b = written_long new in

@@ -1,7 +1,8 @@
 // Output: items written one after another into lent memory, as many as fit.
 #![tactic(auto)]
 
-ghost use Rattle.std.specs.Prelude.{◌≤◌, length};
+ghost use Rattle.std.specs.Prelude.{[], ◌∷◌, ◌++◌, ◌≤◌, length, decimal};
+ghost use Rattle.output.specs.From.{PutsFrom};
 
 use terms::Refusal;
 
@@ -79,4 +80,73 @@ impl Output<'_, u8> {
         }
         Ok(())
     }
+}
+
+// Puts an item at the place reached, if one was reached and there is room. Here and in the three below: an earlier refusal is handed on, and then nothing
+// changes; so is a place past the memory refused.
+pub fn put<T: Copy>(out: &mut [T], at: Result<usize, Refusal>, item: T) -> Result<usize, Refusal>
+    ensures { PutsFrom out.old at (item ∷ []) result out.new }
+{
+    let place = put_nothing(out, at)?;
+    let mut output = Output {
+        memory: out,
+        count: place,
+    };
+    output.put(item)?;
+    Ok(output.count)
+}
+
+// Puts a number in decimal.
+pub fn put_number(out: &mut [u8], at: Result<usize, Refusal>, number: u64) -> Result<usize, Refusal>
+    ensures { PutsFrom out.old at (decimal number) result out.new }
+{
+    let place = put_nothing(out, at)?;
+    let mut output = Output {
+        memory: out,
+        count: place,
+    };
+    output.put_number(number)?;
+    Ok(output.count)
+}
+
+// Puts a number in decimal, and the byte that ends it.
+pub fn put_field(
+    out: &mut [u8],
+    at: Result<usize, Refusal>,
+    number: u64,
+    end: u8,
+) -> Result<usize, Refusal>
+    ensures { PutsFrom out.old at (decimal number ++ (end ∷ [])) result out.new }
+{
+    let place = put_nothing(out, at)?;
+    let mut output = Output {
+        memory: out,
+        count: place,
+    };
+    output.put_field(number, end)?;
+    Ok(output.count)
+}
+
+// Puts bytes.
+pub fn put_bytes(out: &mut [u8], at: Result<usize, Refusal>, bytes: &[u8]) -> Result<usize, Refusal>
+    ensures { PutsFrom out.old at bytes.now result out.new }
+{
+    let place = put_nothing(out, at)?;
+    let mut output = Output {
+        memory: out,
+        count: place,
+    };
+    output.put_bytes(bytes)?;
+    Ok(output.count)
+}
+
+// Puts no item, which is refused at a place past the memory.
+fn put_nothing<T>(out: &[T], at: Result<usize, Refusal>) -> Result<usize, Refusal>
+    ensures { PutsFrom out.now at [] result out.now }
+{
+    let place = at?;
+    if place > out.len() {
+        return Err(Refusal::MemoryTooShort);
+    }
+    Ok(place)
 }
