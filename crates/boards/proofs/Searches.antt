@@ -1,7 +1,11 @@
 -- The least place of an entry in use from one place up to another, and what it says of the board. Assumes nothing.
-use Rattle.std.proofs.Common.{◌≡◌, ℕ, ◌<◌, ◌≤◌, min, true, false, Bool, not, eqb, leb, ltb, ◌&&◌, List, [], ◌∷◌, take, Option, sym, refl, ap, ◌∙◌, subst, ⊎_elim, inl, inr, arith}
-use Rattle.std.specs.List.{fold, reduce}
-use Rattle.std.proofs.lemmas.Bool.{and_from, and_parts, cases_Bool, cases_lt, cond-false, cond-true, le-leb, leb-true, lt-ltb, ltb-true, both_ways}
+use Rattle.std.proofs.Common.{◌≡◌, ℕ, ◌<◌, ◌≤◌, min, true, false, Bool, cond, not, eqb, leb, ltb, ◌&&◌, List, [], ◌∷◌, ◌++◌, length, get_or, map, take, ◌+◌, Option, sym, refl, ap, ◌∙◌, subst, ⊎_elim, inl, inr, arith}
+use Rattle.std.specs.Bool.{then_some}
+use Rattle.std.specs.List.{filter, fold, reduce}
+use Rattle.std.proofs.lemmas.Bool.{and_from, and_parts, cases_Bool, cases_lt, cond-false, cond-true, le-leb, le-ltb, leb-true, lt-ltb, ltb-true, both_ways}
+use Rattle.std.proofs.lemmas.List.{map-append, take_more}
+use Rattle.std.proofs.lemmas.List.Elements.{filter-append}
+use Rattle.std.proofs.lemmas.List.Sums.{fold-append}
 use Rattle.labels.specs.Kind.{Kind, Lawful, some_view}
 use Rattle.terms.specs.Lists.{◌∈◌}
 use Rattle.boards.specs.declared.sparse.Entry.{Entry}
@@ -23,6 +27,11 @@ least a (b ∷ xs) =
 -- whether a place stands between two others
 abbrev Between : ℕ → ℕ → ℕ → Bool
 Between from to p = leb from p && ltb p to
+
+-- one place more lowers the smallest where it stands between the two
+smallest_one : (from to p a : ℕ) → fold min a (filter (Between from to) (p ∷ [])) ≡ cond (Between from to p) (min a p) a
+smallest_one from to p a =
+    ⊎_elim (λ (passes : Between from to p ≡ true). rw passes refl) (λ (fails : Between from to p ≡ false). rw fails refl) (cases_Bool (Between from to p))
 
 module _ {L : Type 0} (from to : ℕ) where
   -- a place of an entry between the two stands there, and is not absent
@@ -55,6 +64,57 @@ module _ {L : Type 0} (from to : ℕ) where
         absent_between es q low high (λ more. out (subst (λ (ps : List ℕ). q ∈ ps) is more)),
       ))
       (cases_Bool (Between from to e.place))
+
+  -- the smallest of so many entries' places there, and `to` where none of them has one
+  abbrev pub smallest_of : List (Entry L) → ℕ
+  smallest_of es = fold min to (places_between from to es)
+
+  smallest_below : (es : List (Entry L)) → smallest_of es ≤ to
+  smallest_below es = (least to (places_between from to es)).1 to (inl refl)
+
+  smallest_push : (es : List (Entry L)) (e : Entry L) → smallest_of (es ++ (e ∷ [])) ≡ cond (Between from to e.place) (min (smallest_of es) e.place) (smallest_of es)
+  smallest_push es e =
+      ap (λ ps. fold min to (filter (Between from to) ps)) (map-append (λ (x : Entry L). x.place) es (e ∷ []))
+      ∙ ap (fold min to) (filter-append (Between from to) (map (λ (x : Entry L). x.place) es) (e.place ∷ []))
+      ∙ fold-append min to (places_between from to es) (filter (Between from to) (e.place ∷ []))
+      ∙ smallest_one from to e.place (smallest_of es)
+
+  module _ (es : List (Entry L)) (i s : ℕ) (e : Entry L) (inside : i < length es) (at : e ≡ get_or es i e) (so_far : s ≡ smallest_of (take i es)) where
+    smallest_more : smallest_of (take (i + 1) es) ≡ cond (Between from to e.place) (min s e.place) s
+    smallest_more =
+        ap smallest_of (take_more es i e inside ∙ ap (λ x. take i es ++ (x ∷ [])) (sym at))
+        ∙ smallest_push (take i es) e
+        ∙ ap (λ n. cond (Between from to e.place) (min n e.place) n) (sym so_far)
+
+    -- a smaller place of one more entry is the smallest
+    pub smallest_takes : from ≤ e.place → e.place < s → e.place ≡ smallest_of (take (i + 1) es)
+    smallest_takes low less =
+        let between = and_from (leb from e.place) (ltb e.place to) (le-leb from e.place low) (lt-ltb e.place to (omega (arith, smallest_below (take i es), so_far))) in
+        let picked : min s e.place ≡ e.place = omega arith in
+        sym (smallest_more ∙ cond-true (Between from to e.place) (min s e.place) s between ∙ picked)
+
+    -- one that is before `from` or no smaller leaves it
+    pub smallest_keeps : (from ≤ e.place → s ≤ e.place) → s ≡ smallest_of (take (i + 1) es)
+    smallest_keeps other =
+        ⊎_elim
+        (λ (passes : Between from to e.place ≡ true).
+        let low : from ≤ e.place = leb-true from e.place (and_parts (leb from e.place) (ltb e.place to) passes).0 in
+        let kept : min s e.place ≡ s = omega (arith, other low) in
+        sym (smallest_more ∙ cond-true (Between from to e.place) (min s e.place) s passes ∙ kept))
+        (λ (fails : Between from to e.place ≡ false). sym (smallest_more ∙ cond-false (Between from to e.place) (min s e.place) s fails))
+        (cases_Bool (Between from to e.place))
+
+  found_smallest : (es : List (Entry L)) (ps : List ℕ) → ps ≡ places_between from to es → then_some (ltb (fold min to ps) to) (fold min to ps) ≡ reduce min ps
+  found_smallest es [] is = ap (λ b. then_some b to) (le-ltb to to (omega arith))
+  found_smallest es (p ∷ ps) is =
+      let first = found_between es p (subst (λ (ns : List ℕ). p ∈ ns) is (inl refl)) in
+      let begins : min to p ≡ p = omega (arith, first.1) in
+      let lowest = (least p ps).1 p (inl refl) in
+      rw begins (ap (λ b. then_some b (fold min p ps)) (lt-ltb (fold min p ps) to (omega (arith, first.1, lowest))))
+
+  -- the smallest that is below `to` is the least of the places there
+  pub smallest_is_least : (es : List (Entry L)) → then_some (ltb (smallest_of es) to) (smallest_of es) ≡ reduce min (places_between from to es)
+  smallest_is_least es = found_smallest es (places_between from to es) refl
 
 module _ {L : Type 0} (k : Kind L) (laws : Lawful k) (es : List (Entry L)) (used size : ℕ) (kept : EntriesKept k es used size) (from to : ℕ) where
   abbrev xs : List (Entry L)

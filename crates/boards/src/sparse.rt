@@ -54,23 +54,27 @@ impl<'a, L: Label> Sparse<'a, L> {
     }
 
     // The index of a place's entry, among those in use.
-    fn find(&self, place: usize) -> Option<usize>
+    fn find(&self, place: u32) -> Option<usize>
         ensures { result ≡ position (λ e. e.place == place) (used_entries self.now) }
     {
         self.entries[..self.used]
             .iter()
-            .position(|entry| entry.place as usize == place)
+            .position(|entry| entry.place == place)
     }
 
     // The smallest place from `from` up to `to` that an entry in use has.
     fn smallest_place(&self, from: usize, to: usize) -> Option<usize>
         ensures { result ≡ reduce min (places_between from to (used_entries self.now)) }
     {
-        self.entries[..self.used]
-            .iter()
-            .map(|entry| entry.place as usize)
-            .filter(|place| from <= *place && *place < to)
-            .min()
+        // `to` stands for none yet. A loop, since a chain that ends in `min` takes half as long again.
+        let mut smallest = to;
+        for entry in &self.entries[..self.used] {
+            let place = entry.place as usize;
+            if from <= place && place < smallest {
+                smallest = place;
+            }
+        }
+        (smallest < to).then_some(smallest)
     }
 
     // Puts a label at a place that has no entry: none needs no entry, and any other label takes the next free one.
@@ -108,7 +112,11 @@ impl<'a, L: Label> Board<L> for Sparse<'a, L> {
     }
 
     fn read(&self, place: usize) -> L {
-        match self.find(place) {
+        // A place at or past the size is none without a search.
+        if place >= self.size as usize {
+            return L::none();
+        }
+        match self.find(place as u32) {
             Some(at) => self.entries[at].label,
             None => L::none(),
         }
@@ -118,7 +126,7 @@ impl<'a, L: Label> Board<L> for Sparse<'a, L> {
         if place >= self.size as usize {
             return Err(Refusal::OutOfRange);
         }
-        match self.find(place) {
+        match self.find(place as u32) {
             Some(at) => {
                 self.entries[at].label = self.entries[at].label.either(added);
                 Ok(())

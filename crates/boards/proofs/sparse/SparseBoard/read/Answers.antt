@@ -4,6 +4,11 @@ use Rattle.boards.specs.Sparse.{used_entries}
 use Rattle.boards.proofs.Entries.{first_entry, entered_past, entered_absent, label_in_use, in_use}
 use Rattle.boards.proofs.sparse.SparseBoard.read.Goals as goal
 
+pub returns-then-place-self-clause-the_label : goal.returns-then-place-self-clause-the_label
+returns-then-place-self-clause-the_label g c =
+    let board = c.args.self.now in
+    c.none.ensures ∙ sym (entered_past g.L.Label.kind board.size (used_entries board) c.args.place c.if-place-self.true board.sound.apart)
+
 pub returns-in-Some : goal.returns-in-Some
 returns-in-Some g c =
     let k = g.L.Label.kind in
@@ -19,4 +24,4 @@ returns-in-Some g c =
 pub returns-in-None-clause-the_label : goal.returns-in-None-clause-the_label
 returns-in-None-clause-the_label g c =
     let board = c.args.self.now in
-    c.none.ensures ∙ sym (entered_absent g.L.Label.kind (used_entries board) c.args.place (first_entry g.L.Label.kind.none (used_entries board) c.args.place None c.in-None.ensures))
+    c.none-in-None.ensures ∙ sym (entered_absent g.L.Label.kind (used_entries board) c.args.place (first_entry g.L.Label.kind.none (used_entries board) c.args.place None c.in-None.ensures))
