@@ -13,20 +13,10 @@ Reads {X} Fits written text None = (x : X) → Fits x → text ≢ written x
 abbrev pub Digit : ℕ → Type 0
 Digit b = IsInRange 48 57 b
 
--- every byte is a digit
-abbrev pub OnlyDigits : List ℕ → Type 0
-OnlyDigits ds = (k : ℕ) → k < length ds → Digit (slice_index ds k)
-
 -- the text does not begin with a digit
 abbrev pub PastDigits : List ℕ → Type 0
 PastDigits [] = Unit {0}
 PastDigits (b ∷ bs) = Digit b → ⊥
-
--- where the digits at the start of a text end
-pub record DigitsEnd (text : List ℕ) (end : ℕ) : Type 0 where
-  pub within : end ≤ length text
-  pub before : (k : ℕ) → k < end → Digit (slice_index text k)
-  pub past : end < length text → Digit (slice_index text end) → ⊥
 
 -- the text is a number up to the limit and a rest that does not begin with a digit; or it is no such text
 abbrev pub NumberAt : ℕ → List ℕ → Option (ℕ × Bor (List ℕ)) → Type 0

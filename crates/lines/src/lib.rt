@@ -1,11 +1,9 @@
 // Lines: a text in bytes, line by line and number by number.
 #![tactic(auto)]
 
-ghost use Rattle.std.specs.Prelude.{◌≡◌, ◌^◌, ◌<◌, length, decimal, Decides, slice_index};
+ghost use Rattle.std.specs.Prelude.{◌≡◌, ◌+◌, ◌<◌, ◌∷◌, length, Decides, MatchOption, slice_index};
 ghost use Rattle.lines.specs.Texts.{FirstAt, SetOff, first_line, after_line, LineAndRest};
-ghost use Rattle.lines.specs.Numbers.{Reads, OnlyDigits, DigitsEnd, NumberAt, ReadsFirst};
-
-use std::str;
+ghost use Rattle.lines.specs.Numbers.{Digit, PastDigits, NumberAt, ReadsFirst};
 
 // Where a byte first stands in a text, or the text's end.
 fn find(text: &[u8], sought: u8) -> usize
@@ -58,38 +56,36 @@ fn is_set_off(text: &[u8]) -> bool
     text.first().is_none_or(|first| *first == b' ')
 }
 
-// The number at the start of a text, up to a limit and with no leading zero, and the text after its digits.
+// The number at the start of a text, up to a limit and with no leading zero, and the text after its digits. Nothing is read past the first digit that
+// takes the value above 64 bits, nor past a leading zero, so that a long run of digits costs no more than a short one.
 pub fn number_at(text: &[u8], most: u64) -> Option<(u64, &[u8])>
     ensures { NumberAt most text.now result }
 {
-    let (digits, rest) = text.split_at(digits_end(text));
-    let value = number(digits).filter(|value| *value <= most)?;
-    Some((value, rest))
-}
-
-// Where the digits at the start of a text end. By hand beside `find`: one function for both would take a closure, and ask for a clause on it at each.
-fn digits_end(text: &[u8]) -> usize
-    ensures { DigitsEnd text.now result }
-{
-    text.iter()
-        .position(|byte| !byte.is_ascii_digit())
-        .unwrap_or(text.len())
-}
-
-// The number that digits write, if they have no leading zero and it has 64 bits.
-fn number(digits: &[u8]) -> Option<u64>
-    requires { OnlyDigits digits.now }
-    ensures { Reads (λ n. n < 2 ^ 64) decimal digits.now result }
-{
-    if has_leading_zero(digits) {
+    if has_leading_zero(text) {
         return None;
     }
-    str::from_utf8(digits).ok()?.parse().ok()
+    let mut value = 0u64;
+    let mut rest = text;
+    while let Some((digit, more)) = first_digit(rest) {
+        value = value.checked_mul(10)?.checked_add(digit)?;
+        rest = more;
+    }
+    (rest.len() < text.len() && value <= most).then_some((value, rest))
 }
 
-// Whether digits begin with a zero and go on after it.
-fn has_leading_zero(digits: &[u8]) -> bool
-    ensures { Decides result ((slice_index digits.now 0 ≡ 48) × (1 < length digits.now)) }
+// Whether a text begins with a zero and a digit after it.
+fn has_leading_zero(text: &[u8]) -> bool
+    ensures { Decides result ((1 < length text.now) × (slice_index text.now 0 ≡ 48) × Digit (slice_index text.now 1)) }
 {
-    digits.len() > 1 && digits[0] == b'0'
+    matches!(text, [b'0', b'0'..=b'9', ..])
+}
+
+// The digit at the start of a text, and the text after it.
+fn first_digit(text: &[u8]) -> Option<(u64, &[u8])>
+    ensures { MatchOption result (PastDigits text.now) (λ p. Digit (p.0 + 48) × (text.now ≡ (p.0 + 48) ∷ p.1.now)) }
+{
+    match text {
+        [digit @ b'0'..=b'9', rest @ ..] => Some((u64::from(*digit - b'0'), rest)),
+        _ => None,
+    }
 }
