@@ -1,7 +1,8 @@
 // Scripts: a list of calls as text, one to a line below four lines that say what memory to set aside, and the lines that answer them.
 #![tactic(auto)]
 
-ghost use Rattle.std.specs.Prelude.{◌≡◌, ◌++◌, MatchOption, IfOk, OnOk, Ok, Err, string_bytes};
+ghost use Rattle.std.specs.Prelude.{◌≡◌, ◌++◌, MatchOption, IfOk, OnOk, Ok, Err, codes, decimal, string_bytes};
+ghost use Rattle.terms.specs.Refusals.{refused_line};
 ghost use Rattle.runs.specs.Account.{said};
 ghost use Rattle.scripts.specs.Lines.{MemoryFits, ReadsLine, SameCall, answer_line, written_answer, as_text};
 ghost use Rattle.lines.specs.Texts.{after_lines};
@@ -285,4 +286,19 @@ fn push_bytes(text: &mut String, bytes: &[u8]) -> Result<(), AllocError>
     ensures { OnOk result (string_bytes text.new ≡ string_bytes text.old ++ as_text bytes.now) }
 {
     text.extend(bytes.iter().map(|byte| char::from(*byte)))
+}
+
+// The line that tells a refusal.
+pub fn refused(heap: Global, refusal: Refusal) -> Result<String, AllocError>
+    ensures { IfOk result (λ s. string_bytes s ≡ refused_line refusal) }
+{
+    format!(in heap; "{refusal}")
+}
+
+// The line that tells of a line that is no call, counted from 1.
+pub fn bad_line(heap: Global, number: usize) -> Result<String, AllocError>
+    ensures { IfOk result (λ s. string_bytes s ≡ codes "bad line " ++ decimal number) }
+{
+    let bad = BadLine { number };
+    format!(in heap; "{bad}")
 }
