@@ -1,5 +1,5 @@
 -- Lines that are noted, and calls that are made, are answered. Assumes nothing.
-use Rattle.std.proofs.Common.{◌≡◌, ℕ, suc, List, [], ◌∷◌, ◌++◌, map, length, sym, refl, ap, ◌∙◌, subst, arith}
+use Rattle.std.proofs.Common.{◌≡◌, ℕ, suc, List, [], ◌∷◌, map, length, sym, refl, ap, ◌∙◌, subst, arith}
 use Rattle.labels.specs.Kind.{Kind}
 use Rattle.boards.specs.Meaning.{Meaning, Made as MadeBoard}
 use Rattle.runs.specs.declared.Request.{Request}
@@ -8,7 +8,6 @@ use Rattle.runs.specs.Account.{Account, Answer, said}
 use Rattle.runs.specs.Law.{Chain, Memory, Run}
 use Rattle.scripts.specs.declared.BoardPlan.{BoardPlan}
 use Rattle.scripts.specs.declared.Setup.{Setup}
-use Rattle.scripts.specs.Lines.{bad_line}
 use Rattle.sessions.specs.declared.Unmade.TheVariants.{NoSuchLabel, BadLine}
 use Rattle.sessions.specs.Answered as answered
 use Rattle.sessions.specs.Answered.{Told, Planned, AnswersIn}
@@ -28,29 +27,27 @@ module _ {L : Type 0} (k : Kind L) where
   answers_counted {before} {after} {calls} {requests} {os} is h = ap length (sym is) ∙ chain_counted h.start calls os h.end h.chain
 
   -- each reply by the outcome of a call has one call
-  pub calls_counted : {n : ℕ} {text : List ℕ} {replies : List Reply} {requests : List (Request L)} → Noted k n text replies requests → calls_among replies ≡ length requests
+  pub calls_counted : {text : List ℕ} {replies : List Reply} {requests : List (Request L)} → Noted k text replies requests → calls_among replies ≡ length requests
   calls_counted no_line = refl
   calls_counted (call some cut notes noted) = ap suc (calls_counted noted)
   calls_counted (no_call why some cut notes noted) = calls_counted noted
 
   -- lines that are noted are told
   lines_told :
-      {n : ℕ} {text : List ℕ} {replies : List Reply} {requests : List (Request L)} → Noted k n text replies requests
-      → (os : List (Answer L)) → length requests ≡ length os → Told k n text requests os (told_lines k replies os)
-  lines_told no_line [] e = answered.no_line
-  lines_told no_line (o ∷ os) e = absurd (omega (arith, e))
-  lines_told (call some cut notes noted) [] e = absurd (omega (arith, e))
-  lines_told (call some cut notes noted) (o ∷ os) e = answered.call some cut notes.1 notes.2 (lines_told noted os (omega (arith, e)))
-  lines_told (no_call NoSuchLabel some cut notes noted) os e = answered.no_label some cut notes.1 notes.2 (lines_told noted os e)
-  lines_told (no_call {n} {text} {line} {rest} (BadLine bad) {replies} {requests} some cut notes noted) os e =
-      subst (λ (m : ℕ). Told k n text requests os (bad_line m ++ (10 ∷ told_lines k replies os))) (sym notes.1)
-      (answered.no_call some cut notes.0 (lines_told noted os e))
+      (n : ℕ) {text : List ℕ} {replies : List Reply} {requests : List (Request L)} → Noted k text replies requests
+      → (os : List (Answer L)) → length requests ≡ length os → Told k n text requests os (told_lines k n replies os)
+  lines_told n no_line [] e = answered.no_line
+  lines_told n no_line (o ∷ os) e = absurd (omega (arith, e))
+  lines_told n (call some cut notes noted) [] e = absurd (omega (arith, e))
+  lines_told n (call some cut notes noted) (o ∷ os) e = answered.call some cut notes.1 notes.2 (lines_told (suc n) noted os (omega (arith, e)))
+  lines_told n (no_call NoSuchLabel some cut notes noted) os e = answered.no_label some cut notes.1 notes.2 (lines_told (suc n) noted os e)
+  lines_told n (no_call BadLine some cut notes noted) os e = answered.no_call some cut notes (lines_told (suc n) noted os e)
 
   -- the lines noted, the run of their calls, and the text told of both
   pub answers_from :
       {before after : Memory L} {lines told : List ℕ} {replies replies' : List Reply} {requests calls : List (Request L)} {log log' : List (Outcome L)}
-      → Noted k 5 lines replies requests → calls ≡ requests → Run k before calls (map said log) after → replies' ≡ replies → log' ≡ log
-      → told ≡ told_lines k replies' (map said log') → AnswersFrom k before lines told
+      → Noted k lines replies requests → calls ≡ requests → Run k before calls (map said log) after → replies' ≡ replies → log' ≡ log
+      → told ≡ told_lines k 5 replies' (map said log') → AnswersFrom k before lines told
   answers_from {before} {after} {lines} {told} {replies} {replies'} {requests} {calls} {log} {log'} noted calls_are run replies_are log_is told_is =
       record {
         requests = requests;
@@ -58,8 +55,8 @@ module _ {L : Type 0} (k : Kind L) where
         after = after;
         lines_told =
             subst (λ (t : List ℕ). Told k 5 lines requests (map said log) t)
-            (sym (told_is ∙ ap (λ l. told_lines k l (map said log')) replies_are ∙ ap (λ l. told_lines k replies (map said l)) log_is))
-            (lines_told noted (map said log) (answers_counted calls_are run));
+            (sym (told_is ∙ ap (λ l. told_lines k 5 l (map said log')) replies_are ∙ ap (λ l. told_lines k 5 replies (map said l)) log_is))
+            (lines_told 5 noted (map said log) (answers_counted calls_are run));
         run = subst (λ (qs : List (Request L)). Run k before qs (map said log) after) calls_are run;
       }
 

@@ -28,36 +28,36 @@ calls_among [] = 0
 calls_among (Ok made ∷ replies) = suc (calls_among replies)
 calls_among (Err why ∷ replies) = calls_among replies
 
--- the line that tells why a line makes no call
-abbrev pub unmade_line : Unmade → List ℕ
-unmade_line NoSuchLabel = refused_line refusal.NoSuchLabel
-unmade_line (BadLine bad) = bad_line bad.number
+-- the line that tells why line n makes no call
+abbrev pub unmade_line : (n : ℕ) → Unmade → List ℕ
+unmade_line n NoSuchLabel = refused_line refusal.NoSuchLabel
+unmade_line n BadLine = bad_line n
 
 module _ {L : Type 0} (k : Kind L) where
-  -- line n is this call, or makes none for this reason
-  abbrev pub Notes : (n : ℕ) → (line : List ℕ) → Result (Request L) Unmade → Type 0
-  Notes n line (Ok r) = (q : Request ℕ) × ReadsLine line (Some q) × SameCall k q (Some r)
-  Notes n line (Err NoSuchLabel) = (q : Request ℕ) × ReadsLine line (Some q) × SameCall k q None
-  Notes n line (Err (BadLine bad)) = ReadsLine line None × (bad.number ≡ n)
+  -- the line is this call, or makes none for this reason
+  abbrev pub Notes : (line : List ℕ) → Result (Request L) Unmade → Type 0
+  Notes line (Ok r) = (q : Request ℕ) × ReadsLine line (Some q) × SameCall k q (Some r)
+  Notes line (Err NoSuchLabel) = (q : Request ℕ) × ReadsLine line (Some q) × SameCall k q None
+  Notes line (Err BadLine) = ReadsLine line None
 
-  -- the lines of a text, the first of which is line n, are noted: a reply for each, and the calls in their order
-  pub data Noted : (n : ℕ) → (text : List ℕ) → List Reply → List (Request L) → Type 0 where
-    no_line : {n : ℕ} → Noted n [] [] []
+  -- the lines of a text are noted: a reply for each, and the calls in their order
+  pub data Noted : (text : List ℕ) → List Reply → List (Request L) → Type 0 where
+    no_line : Noted [] [] []
     call :
-        {n : ℕ} {text line rest : List ℕ} {r : Request L} {replies : List Reply} {requests : List (Request L)}
-        → 0 < length text → LineAndRest text line rest → Notes n line (Ok r)
-        → Noted (suc n) rest replies requests → Noted n text (Ok tt ∷ replies) (r ∷ requests)
+        {text line rest : List ℕ} {r : Request L} {replies : List Reply} {requests : List (Request L)}
+        → 0 < length text → LineAndRest text line rest → Notes line (Ok r)
+        → Noted rest replies requests → Noted text (Ok tt ∷ replies) (r ∷ requests)
     no_call :
-        {n : ℕ} {text line rest : List ℕ} (why : Unmade) {replies : List Reply} {requests : List (Request L)}
-        → 0 < length text → LineAndRest text line rest → Notes n line (Err why)
-        → Noted (suc n) rest replies requests → Noted n text (Err why ∷ replies) requests
+        {text line rest : List ℕ} (why : Unmade) {replies : List Reply} {requests : List (Request L)}
+        → 0 < length text → LineAndRest text line rest → Notes line (Err why)
+        → Noted rest replies requests → Noted text (Err why ∷ replies) requests
 
-  -- the text of the replies, those by the outcome of a call with the answers in their order
-  abbrev pub told_lines : List Reply → List (Answer L) → List ℕ
-  told_lines [] os = []
-  told_lines (Ok made ∷ replies) [] = []
-  told_lines (Ok made ∷ replies) (o ∷ os) = answer_line k o ++ (10 ∷ told_lines replies os)
-  told_lines (Err why ∷ replies) os = unmade_line why ++ (10 ∷ told_lines replies os)
+  -- the text of the replies, the first of which is to line n: those by the outcome of a call with the answers in their order
+  abbrev pub told_lines : (n : ℕ) → List Reply → List (Answer L) → List ℕ
+  told_lines n [] os = []
+  told_lines n (Ok made ∷ replies) [] = []
+  told_lines n (Ok made ∷ replies) (o ∷ os) = answer_line k o ++ (10 ∷ told_lines (suc n) replies os)
+  told_lines n (Err why ∷ replies) os = unmade_line n why ++ (10 ∷ told_lines (suc n) replies os)
 
   -- the lines are answered by a run of their calls from this memory
   pub record AnswersFrom (before : Memory L) (lines told : List ℕ) : Type 0 where

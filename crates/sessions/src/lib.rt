@@ -5,7 +5,7 @@ ghost use Rattle.std.specs.Prelude.{◌≡◌, map, length, IfOk, string_bytes};
 ghost use Rattle.runs.specs.Account.{said};
 ghost use Rattle.runs.specs.Law.{memory};
 ghost use Rattle.sessions.specs.Answered.{Answered, AnswersIn};
-ghost use Rattle.sessions.specs.Noted.{Notes, Noted, calls_among, told_lines, AnswersFrom};
+ghost use Rattle.sessions.specs.Noted.{Notes, Noted, calls_among, unmade_line, told_lines, AnswersFrom};
 
 use boards::{Board, Dense, Entry, Sparse};
 use labels::{Grade, Label, Model, Whole};
@@ -15,32 +15,14 @@ use scripts::{
     BadLine, BoardPlan, LabelKind, Setup, answer, calls_of, labelled, request_of, setup_of,
 };
 use std::alloc::{AllocError, Global};
-use std::error::Error;
-use std::fmt;
 use terms::{Refusal, Sentence};
 
-// Why a line below the first four makes no call.
+// Why a line below the first four makes no call. It holds no line's number, which the place among the replies tells: so a reply takes two bytes.
 #[derive(Clone, Copy, Debug)]
 enum Unmade {
     NoSuchLabel,
-    BadLine(BadLine),
+    BadLine,
 }
-
-impl fmt::Display for Unmade {
-    ghost use Rattle.std.specs.Prelude.{Some};
-    ghost use Rattle.sessions.specs.Noted.{unmade_line};
-
-    ghost output = { λ why. Some (unmade_line why) };
-
-    fn fmt<W: fmt::Write>(&self, f: &mut fmt::Formatter<W>) -> fmt::Result {
-        match self {
-            Unmade::NoSuchLabel => write!(f, "{}", Refusal::NoSuchLabel),
-            Unmade::BadLine(bad) => write!(f, "{bad}"),
-        }
-    }
-}
-
-impl Error for Unmade {}
 
 // The calls among the lines, and how each line is answered: by the outcome of the next call, or by why it makes none.
 // Two lists, since `perform` takes the calls as one slice.
@@ -126,14 +108,14 @@ fn answered<L: Label, B: Board<L>>(
     told(heap, &replies, &log)
 }
 
-// Notes the lines, the first of which is line 5 of the script.
+// Notes the lines.
 fn take_lines<'a, L: Label>(heap: Global, lines: &'a [u8]) -> Result<Notebook<'a, L>, AllocError>
-    ensures { IfOk result (λ notebook. Noted L.Label.kind 5 lines.now notebook.replies.items notebook.requests.items) }
+    ensures { IfOk result (λ notebook. Noted L.Label.kind lines.now notebook.replies.items notebook.requests.items) }
 {
     let mut requests = Vec::new(heap);
     let mut replies = Vec::new(heap);
-    for (at, line) in (Lines { rest: lines }).enumerate() {
-        match take_line(line, at + 5) {
+    for line in (Lines { rest: lines }) {
+        match take_line(line) {
             Ok(request) => {
                 requests.push(request)?;
                 replies.push(Ok(()))?;
@@ -144,32 +126,42 @@ fn take_lines<'a, L: Label>(heap: Global, lines: &'a [u8]) -> Result<Notebook<'a
     Ok(Notebook { requests, replies })
 }
 
-// The call that a line of this number is, or why it makes none.
-fn take_line<'a, L: Label>(line: &'a [u8], number: usize) -> Result<Request<'a, L>, Unmade>
-    ensures { Notes L.Label.kind number line.now result }
+// The call that a line is, or why it makes none.
+fn take_line<'a, L: Label>(line: &'a [u8]) -> Result<Request<'a, L>, Unmade>
+    ensures { Notes L.Label.kind line.now result }
 {
-    let request = request_of(line).ok_or(Unmade::BadLine(BadLine { number }))?;
+    let request = request_of(line).ok_or(Unmade::BadLine)?;
     labelled(&request).ok_or(Unmade::NoSuchLabel)
 }
 
-// The answers, a line each, in the order of the lines.
+// The answers, a line each, in the order of the lines, the first of which is line 5 of the script.
 fn told<L: Label>(
     heap: Global,
     replies: &[Result<(), Unmade>],
     log: &[Outcome<L>],
 ) -> Result<String, AllocError>
     requires { calls_among replies.now ≡ length log.now }
-    ensures { IfOk result (λ s. string_bytes s ≡ told_lines L.Label.kind replies.now (map said log.now)) }
+    ensures { IfOk result (λ s. string_bytes s ≡ told_lines L.Label.kind 5 replies.now (map said log.now)) }
 {
     let mut text = String::new(heap);
     let mut outcomes = log.iter();
-    for reply in replies {
+    for (at, reply) in replies.iter().enumerate() {
         let line = match reply {
             Ok(()) => answer(heap, outcomes.next().unwrap())?,
-            Err(why) => why.to_string(heap)?,
+            Err(why) => unmade_reason(heap, *why, at + 5)?,
         };
         text.push_str(line.as_str())?;
         text.push('\n')?;
     }
     Ok(text)
+}
+
+// The line that tells why the line of this number makes no call.
+fn unmade_reason(heap: Global, why: Unmade, number: usize) -> Result<String, AllocError>
+    ensures { IfOk result (λ s. string_bytes s ≡ unmade_line number why) }
+{
+    match why {
+        Unmade::NoSuchLabel => Refusal::NoSuchLabel.to_string(heap),
+        Unmade::BadLine => BadLine { number }.to_string(heap),
+    }
 }
