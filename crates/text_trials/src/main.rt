@@ -4,7 +4,7 @@
 ghost use Rattle.responding.specs.Room.{ArraysFit};
 
 use labels::{Grade, Label, Model};
-use responding::{OUTPUT_ROOM, answer};
+use responding::{INPUT_ROOM, OUTPUT_ROOM, answer, read_input};
 use std::fs::File;
 use std::io::Write;
 use std::rt::Files;
@@ -30,12 +30,15 @@ fn main(rt: HostRuntime) -> anyhow::Result<()> {
     Ok(())
 }
 
-// Answers one text under its name. By hand, and not by `print_answer`: of a text that cannot be read no name is printed.
+// Answers one text under its name. By hand, and not by `print_answer`: of a text that cannot be read no name is printed, and of one that can it is printed
+// before the text is settled, which may take long.
 fn answer_one<L: Label>(rt: &(impl Files + Print), path: &str) -> anyhow::Result<()>
     requires { ArraysFit L.row }
 {
+    let mut input = [0; INPUT_ROOM + 1];
     let mut output = [0; OUTPUT_ROOM];
-    let count = answer::<L, _>(&mut File::open(rt, path)?, &mut output)?;
+    let count = read_input(&mut File::open(rt, path)?, &mut input)?;
     println!(rt; "{path}:")?;
+    let count = answer::<L, _>(&mut &input[..count], &mut output)?;
     Ok(io::writer(rt).write_all(&output[..count])?)
 }
