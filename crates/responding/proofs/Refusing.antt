@@ -28,7 +28,7 @@ pub parted : (bad : Misread) → codes "refused " ++ (decimal (number_of bad.ref
 parted bad = sym (append_assoc (codes "refused " ++ decimal (number_of bad.refusal)) (codes " line " ++ decimal bad.line) (10 ∷ []) ∙ append_assoc (codes "refused ") (decimal (number_of bad.refusal)) ((codes " line " ++ decimal bad.line) ++ (10 ∷ [])))
 
 -- the line has at most 55 bytes
-line_short : (bad : Misread) → bad.line < 2 ^ 64 → length (refusal_line bad) ≤ 55
+pub line_short : (bad : Misread) → bad.line < 2 ^ 64 → length (refusal_line bad) ≤ 55
 line_short bad small =
     let n : ℕ = number_of bad.refusal in
     let few = number_small bad.refusal in

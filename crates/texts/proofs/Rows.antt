@@ -10,7 +10,7 @@ use Rattle.texts.specs.Texts.{Opens}
 use Rattle.lines.proofs.Numbers.{same_start}
 
 -- a number and what follows it are determined by the byte that ends it
-same_field : (n m e : ℕ) (xs ys : List ℕ) → n < 2 ^ 64 → m < 2 ^ 64 → e < 48 → decimal n ++ (e ∷ xs) ≡ decimal m ++ (e ∷ ys) → (n ≡ m) × (xs ≡ ys)
+pub same_field : (n m e : ℕ) (xs ys : List ℕ) → n < 2 ^ 64 → m < 2 ^ 64 → e < 48 → decimal n ++ (e ∷ xs) ≡ decimal m ++ (e ∷ ys) → (n ≡ m) × (xs ≡ ys)
 same_field n m e xs ys l k below h =
     let s = same_start n m (e ∷ xs) (e ∷ ys) l k (λ d. omega (arith, d.0)) (λ d. omega (arith, d.0)) h in (s.0, ap (drop 1) s.1)
 
@@ -26,7 +26,7 @@ abbrev pub values_onto : ℕ → List ℕ → List ℕ → List ℕ
 values_onto n [] tail = decimal n ++ (10 ∷ tail)
 values_onto n (m ∷ ms) tail = decimal n ++ (32 ∷ values_onto m ms tail)
 
-onto : (n : ℕ) (ms tail : List ℕ) → values n ms ++ tail ≡ values_onto n ms tail
+pub onto : (n : ℕ) (ms tail : List ℕ) → values n ms ++ tail ≡ values_onto n ms tail
 onto n [] tail = append_assoc (decimal n) (10 ∷ []) tail
 onto n (m ∷ ms) tail = append_assoc (decimal n) (32 ∷ values m ms) tail ∙ ap (λ z. decimal n ++ (32 ∷ z)) (onto m ms tail)
 
