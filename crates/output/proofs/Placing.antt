@@ -17,11 +17,11 @@ module _ {X : Type 0} where
       ap (λ n. take n (x ∷ (xs ++ ys))) e ∙ ap (λ z. x ∷ z) (take_past xs ys j)
 
   -- nothing is put within the memory
-  pub nothing_at : (old : List X) (at : ℕ) → at ≤ length old → PutsFrom old (Ok at) [] (Ok at) old
-  nothing_at old at h = (omega arith, h, sym (take-append-drop at old))
+  pub put_nothing : (old : List X) (at : ℕ) → at ≤ length old → PutsFrom old (Ok at) [] (Ok at) old
+  put_nothing old at h = (omega arith, h, sym (take-append-drop at old))
 
   -- at or past the end of the memory no item fits
-  no_room : (old items : List X) (at : ℕ) → length old ≤ at → length old < at + length items → PutsFrom old (Ok at) items (Err MemoryTooShort) old
+  pub no_room : (old items : List X) (at : ℕ) → length old ≤ at → length old < at + length items → PutsFrom old (Ok at) items (Err MemoryTooShort) old
   no_room old items at h short =
       let none : length old - at ≡ 0 = omega arith in
       (refl, short, sym (ap (λ n. take at old ++ take n items) none ∙ append-nil (take at old) ∙ take_all at old h))

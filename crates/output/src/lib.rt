@@ -82,8 +82,8 @@ impl Output<'_, u8> {
     }
 }
 
-// Puts an item at the place reached, if one was reached and there is room. Here and in the three below: an earlier refusal is handed on, and then nothing
-// changes; so is a place past the memory refused.
+// Puts an item at the place reached, if one was reached and there is room. Here and in the three below an earlier refusal is handed on, a place past the
+// memory is refused, and nothing changes in either case. By hand: they are promised with that place, which the methods hold in the struct.
 pub fn put<T: Copy>(out: &mut [T], at: Result<usize, Refusal>, item: T) -> Result<usize, Refusal>
     ensures { PutsFrom out.old at (item ∷ []) result out.new }
 {
