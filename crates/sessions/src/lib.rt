@@ -12,7 +12,8 @@ use labels::{Grade, Label, Model, Whole};
 use lines::split_line;
 use runs::{Outcome, Request, perform};
 use scripts::{
-    BadLine, BoardPlan, LabelKind, Setup, answer, calls_of, labelled, request_of, setup_of,
+    BoardPlan, LabelKind, Setup, answer, bad_line, calls_of, labelled, refused, request_of,
+    setup_of,
 };
 use std::alloc::{AllocError, Global};
 use terms::{Refusal, Sentence};
@@ -161,7 +162,7 @@ fn unmade_reason(heap: Global, why: Unmade, number: usize) -> Result<String, All
     ensures { IfOk result (λ s. string_bytes s ≡ unmade_line number why) }
 {
     match why {
-        Unmade::NoSuchLabel => Refusal::NoSuchLabel.to_string(heap),
-        Unmade::BadLine => BadLine { number }.to_string(heap),
+        Unmade::NoSuchLabel => refused(heap, Refusal::NoSuchLabel),
+        Unmade::BadLine => bad_line(heap, number),
     }
 }
