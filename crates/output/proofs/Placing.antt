@@ -26,10 +26,6 @@ module _ {X : Type 0} where
       let none : length old - at ≡ 0 = omega arith in
       (refl, short, sym (ap (λ n. take at old ++ take n items) none ∙ append-nil (take at old) ∙ take_all at old h))
 
-  -- nor past it nothing
-  pub nothing_past : (old : List X) (at : ℕ) → length old < at → PutsFrom old (Ok at) [] (Err MemoryTooShort) old
-  nothing_past old at h = no_room old [] at (omega arith) (omega arith)
-
   -- where nothing is refused, so are items
   refused_before : (old items : List X) (at : Result ℕ Refusal) (e : Refusal) → PutsFrom old at [] (Err e) old → PutsFrom old at items (Err e) old
   refused_before old items (Ok at) e p = subst (λ f. PutsFrom old (Ok at) items (Err f) old) (sym p.0) (no_room old items at (omega (arith, p.1)) (omega (arith, p.1)))
